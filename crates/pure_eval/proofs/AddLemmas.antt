@@ -1,5 +1,5 @@
 -- One source more.
-use Rattle.std.proofs.Common.{◌≡◌, ◌⊎◌, inl, inr, ℕ, zero, suc, List, [], ◌∷◌, ◌++◌, length, Option, Some, refl, sym, ap, ◌∙◌, subst, arith}
+use Rattle.std.proofs.Common.{◌≡◌, ◌⊎◌, inl, inr, ℕ, zero, suc, List, [], ◌∷◌, ◌++◌, length, Option, None, Some, refl, sym, ap, ◌∙◌, subst, arith, append-nil}
 use Rattle.std.specs.Prelude.{slice_get}
 use Rattle.std.specs.Global.{Vec}
 use Rattle.js_heap.specs.declared.value.Addr.{Addr}
@@ -10,14 +10,17 @@ use Rattle.js_heap_memory.specs.Names.{GoesOn}
 use Rattle.js_machine_nodes.specs.declared.node.SourceEntry.{SourceEntry}
 use Rattle.js_machine_nodes.specs.declared.table.NodeTable.{NodeTable}
 use Rattle.js_machine_nodes.specs.Codes.{indexed_code}
-use Rattle.js_machine_nodes.specs.Trees.{tree, IsTable, source_tree, source_trees}
+use Rattle.js_machine_nodes.specs.Trees.{tree, source_tree, source_trees, program_of}
 use Rattle.js_machine_compiler.specs.Grown.{Extends, KeepsTable, Grows, HasTree, HoldsTerm}
 use Rattle.js_machine_compiler.specs.Index.{IsIndexed}
 use Rattle.js_machine_compiler.specs.Scripts.{with_sources}
-use Rattle.js_machine_compiler.proofs.GrownLemmas.{begins_same, extends_twice, same_nodes, same_places}
-use Rattle.pure_eval.specs.Whole.{AreClosed, ArePlaced, IsWithin, IsWhole}
+use Rattle.js_machine_compiler.proofs.GrownLemmas.{begins_same, extends_same, extends_twice, same_nodes, same_places}
+use Rattle.js_machine_compiler.proofs.NameLemmas.{goes_on_same}
+use Rattle.pure_eval.specs.Whole.{AreClosed, ArePlaced, IsWithin, Finds, IsWhole}
 use Rattle.pure_eval.specs.Adding.{kept_tree_at, IsAdded}
-use Rattle.pure_eval.proofs.StayLemmas.{Finds, finds-stay, sources-stay}
+use Rattle.pure_eval.specs.Cutting.{IsBack}
+use Rattle.pure_eval.specs.Holding.{IsCodeAdded, IsHeldAt, code_term}
+use Rattle.pure_eval.proofs.StayLemmas.{finds-stay, sources-stay}
 use Rattle.pure_eval.proofs.WholeLemmas.{closed-more, placed-more, within-more, closed-end, placed-end}
 use Rattle.js_machine_compiler.proofs.ScriptLemmas.{sources_push, tree_of}
 
@@ -59,85 +62,78 @@ each_source P es fs e s h k i d g = by (last_or es e d i (ap (λ xs. slice_get x
     by (inl f) = h i d f
     by (inr f) = subst P f k
 
--- ---- the table with one more source
-
--- what is known of a table whose nodes were added, before their source is
-pub record IsReady (t w : NodeTable) (plain entry : SourceEntry) : Type 0 where
-  pub keeps : KeepsTable t w
-  pub closed : AreClosed w (length t.nodes.items)
-  pub placed : ArePlaced w (length t.functions.items)
-  pub indexed : IsIndexed w plain entry
-  pub within : IsWithin w entry
-
-pub whole-added : (t w : NodeTable) (es : Vec SourceEntry) (plain entry : SourceEntry)
-    → IsWhole t
-    → IsReady t w plain entry
-    → es.items ≡ t.sources.items ++ entry ∷ []
+-- the table with one more source
+whole-pushed : (w : NodeTable) (es : Vec SourceEntry) (entry : SourceEntry)
+    → IsWhole w
+    → IsWithin w entry
+    → Finds w entry
+    → es.items ≡ w.sources.items ++ entry ∷ []
     → IsWhole (with_sources w es)
-whole-added t w es plain entry h r s =
+whole-pushed w es entry h within found s =
     let u : NodeTable = with_sources w es in
-    let x : Extends t w = r.keeps.entries in
     let y : Extends w u = other_extends w es in
-    let table : IsTable w = r.keeps.table h.table in
-    let closed : AreClosed w 0 = closed-more t w h.closed x r.closed in
-    let placed : ArePlaced w 0 = placed-more t w h.placed x r.placed in
     let f : (ts : List (List ℕ)) (i : ℕ) (e : SourceEntry)
     → slice_get es.items i ≡ Some e
     → (n : ℕ)
     → function_in n (tree ts u e.root) ≡ indexed_code ts u e n = λ ts i e g n.
-    each_source (Finds u) t.sources.items es.items entry s
-    (λ j d k. finds-stay t u d h.table h.closed h.placed (extends_twice t w u x y) (h.sources j d k)
-    (λ us m. h.functions.finds us j d k m))
-    (finds-stay w u entry table closed placed y r.within r.indexed.finds) i e g ts n in
+    each_source (Finds u) w.sources.items es.items entry s
+    (λ j d k. finds-stay w u d h.table h.closed h.placed y (h.sources j d k) (λ us m. h.functions.finds us j d k m))
+    (finds-stay w u entry h.table h.closed h.placed y within found) i e g ts n in
     record {
-      table = same_nodes w u refl refl table;
-      places = same_places w u refl (begins_same w.functions.items) (r.keeps.places h.places);
+      table = same_nodes w u refl refl h.table;
+      places = same_places w u refl (begins_same w.functions.items) h.places;
       functions = record { finds = f };
-      closed = closed-more w u closed y (closed-end u (length w.nodes.items) (omega arith));
-      placed = placed-more w u placed y (placed-end u (length w.functions.items) (omega arith));
+      closed = closed-more w u h.closed y (closed-end u (length w.nodes.items) (omega arith));
+      placed = placed-more w u h.placed y (placed-end u (length w.functions.items) (omega arith));
       sources =
-          each_source (IsWithin u) t.sources.items es.items entry s
-          (λ i d k. within-more t u d (extends_twice t w u x y) (h.sources i d k))
-          (within-more w u entry y r.within);
+          each_source (IsWithin u) w.sources.items es.items entry s
+          (λ i d k. within-more w u d y (h.sources i d k))
+          (within-more w u entry y within);
     }
 
-pub source-added : (names more : List (List ℕ)) (t w : NodeTable) (es : Vec SourceEntry) (at : Addr) (x : Term)
-    (root : ℕ) (plain entry : SourceEntry)
+-- ---- code that no source has
+
+-- a table whose nodes and functions go on, with the same sources
+whole-grown : (t w : NodeTable)
     → IsWhole t
-    → GoesOn names more
-    → IsReady t w plain entry
-    → HasTree more w root x
-    → plain.source ≡ kept_source at
-    → plain.root ≡ root
-    → es.items ≡ w.sources.items ++ entry ∷ []
-    → IsAdded names t at x more (with_sources w es) root
-source-added names more t w es at x root plain entry h g r k c d s =
-    let u : NodeTable = with_sources w es in
-    let y : Extends w u = other_extends w es in
-    let z : Extends t u = extends_twice t w u r.keeps.entries y in
-    let s : es.items ≡ t.sources.items ++ entry ∷ [] = s ∙ ap (λ v. v.items ++ entry ∷ []) r.keeps.sources in
-    let is : (us : List (List ℕ)) → GoesOn more us → tree us u root ≡ x = λ us l. tree_of more us w u root x k l y in
+    → KeepsTable t w
+    → AreClosed w (length t.nodes.items)
+    → ArePlaced w (length t.functions.items)
+    → IsWhole w
+whole-grown t w h k c p =
+    let x : Extends t w = k.entries in
+    let at : (i : ℕ) (e : SourceEntry)
+    → slice_get w.sources.items i ≡ Some e
+    → slice_get t.sources.items i ≡ Some e = λ i e g. ap (λ (v : Vec SourceEntry). slice_get v.items i) (sym k.sources)
+    ∙ g in
     record {
-      goes_on = g;
-      entry = entry;
-      table = record { entries = z; sources = s };
-      whole = whole-added t w es plain entry h r s;
-      tree = is;
-      program = λ us l.
-          ap (source_trees us u) s ∙ sources_push us u t.sources.items entry
-          ∙ ap (λ ps. ps ++ source_tree us u entry ∷ [])
-          (sources-stay us t u t.sources.items h.table h.closed z h.sources)
-          ∙ ap (λ o. let e : SourceTree = record { source = o; tree = tree us u entry.root } in
-          source_trees us t t.sources.items ++ e ∷ [])
-          (r.indexed.source ∙ c)
-          ∙ ap (λ n. source_trees us t t.sources.items ++ kept_tree_at at (tree us u n) ∷ []) (r.indexed.root ∙ d)
-          ∙ ap (λ y. source_trees us t t.sources.items ++ kept_tree_at at y ∷ []) (is us l);
+      table = k.table h.table;
+      places = k.places h.places;
+      functions =
+          record {
+            finds = λ ts i e g n. finds-stay t w e h.table h.closed h.placed x (h.sources i e (at i e g))
+                (λ us m. h.functions.finds us i e (at i e g) m) ts n;
+          };
+      closed = closed-more t w h.closed x c;
+      placed = placed-more t w h.placed x p;
+      sources = λ i e g. within-more t w e x (h.sources i e (at i e g));
     }
 
--- ---- as the code has it
+grown-back : (t w : NodeTable) → IsWhole t → KeepsTable t w → IsWhole w → IsBack t w
+grown-back t w h k whole = record {
+  whole = whole;
+  table =
+      record {
+        entries = k.entries;
+        sources = ap (λ (v : Vec SourceEntry). v.items) k.sources ∙ sym (append-nil t.sources.items);
+      };
+  program =
+      λ ts. ap (λ (v : Vec SourceEntry). source_trees ts w v.items) k.sources
+      ∙ sources-stay ts t w t.sources.items h.table h.closed k.entries h.sources;
+}
 
-pub added : (names more : List (List ℕ)) (t w : NodeTable) (es : Vec SourceEntry) (at : Addr) (x : Term)
-    (root from first : ℕ) (o : Option ℕ) (plain entry : SourceEntry)
+pub code-added : (names more : List (List ℕ)) (t w : NodeTable) (at : Addr) (x : Term) (root from first : ℕ)
+    (o : Option ℕ) (plain entry : SourceEntry)
     → IsWhole t
     → Grows names t more w
     → HoldsTerm more w x o
@@ -150,18 +146,82 @@ pub added : (names more : List (List ℕ)) (t w : NodeTable) (es : Vec SourceEnt
     → plain.root ≡ root
     → IsIndexed w plain entry
     → IsWithin w entry
-    → es.items ≡ w.sources.items ++ entry ∷ []
-    → IsAdded names t at x more (with_sources w es) root
-added names more t w es at x root from first o plain entry h g k e a b c d s r i j l =
+    → IsCodeAdded names t at x more w entry
+code-added names more t w at x root from first o plain entry h g k e a b c d s r i j =
     let P : Option ℕ → Type 0 = HoldsTerm more w x in
-    let Q : ℕ → Type 0 = AreClosed w in
-    let R : ℕ → Type 0 = ArePlaced w in
     let tree : HasTree more w root x = (let t' : HoldsTerm more w x (Some root) = subst P e k in t') in
-    let ready : IsReady t w plain entry = record {
-      keeps = g.table;
-      closed = subst Q a b;
-      placed = subst R c d;
-      indexed = i;
-      within = j;
+    let whole : IsWhole w = whole-grown t w h g.table (subst (AreClosed w) a b) (subst (ArePlaced w) c d) in
+    record {
+      goes_on = g.names;
+      back = grown-back t w h g.table whole;
+      code = record {
+        source = i.source ∙ s;
+        tree = subst (λ n. HasTree more w n x) (sym (i.root ∙ r)) tree;
+        within = j;
+        finds = i.finds;
+      };
+    }
+
+-- code that was there
+pub code-there : (names : List (List ℕ)) (t : NodeTable) (at : Addr) (x : Term) (o : Option SourceEntry)
+    (entry : SourceEntry)
+    → IsWhole t
+    → IsHeldAt names t at o
+    → o ≡ Some entry
+    → IsCodeAdded names t at (code_term names t x o) names t entry
+code-there names t at x o entry w h e =
+    let P : Option SourceEntry
+    → Type 0 = λ p. IsHeldAt names t at p → IsCodeAdded names t at (code_term names t x p) names t entry in
+    let there : P (Some entry) = λ k. record {
+      goes_on = goes_on_same names;
+      back = record {
+        whole = w;
+        table = record { entries = extends_same t; sources = sym (append-nil t.sources.items) };
+        program = λ ts. refl;
+      };
+      code = k;
     } in
-    source-added names more t w es at x root plain entry h g.names ready tree s r l
+    subst P (sym e) there h
+
+pub code-new : (names more : List (List ℕ)) (t u : NodeTable) (at : Addr) (x : Term) (o : Option SourceEntry)
+    (entry : SourceEntry)
+    → o ≡ None
+    → IsCodeAdded names t at x more u entry
+    → IsCodeAdded names t at (code_term names t x o) more u entry
+code-new names more t u at x o entry e a =
+    let P : Option SourceEntry → Type 0 = λ p. IsCodeAdded names t at (code_term names t x p) more u entry in
+    let there : P None = a in
+    subst P (sym e) there
+
+-- the source of code that was added, behind the others
+pub source-pushed : (names more : List (List ℕ)) (t w : NodeTable) (es : Vec SourceEntry) (at : Addr) (x : Term)
+    (entry : SourceEntry)
+    → IsCodeAdded names t at x more w entry
+    → es.items ≡ w.sources.items ++ entry ∷ []
+    → IsAdded names t at x more (with_sources w es) entry.root
+source-pushed names more t w es at x entry a s =
+    let u : NodeTable = with_sources w es in
+    let h : IsWhole w = a.back.whole in
+    let y : Extends w u = other_extends w es in
+    let is : (us : List (List ℕ))
+    → GoesOn more us
+    → tree us u entry.root ≡ x = λ us l. tree_of more us w u entry.root x a.code.tree l y in
+    record {
+      goes_on = a.goes_on;
+      entry = entry;
+      table =
+          record {
+            entries = extends_twice t w u a.back.table.entries y;
+            sources = s ∙ ap (λ ds. ds ++ entry ∷ []) (a.back.table.sources ∙ append-nil t.sources.items);
+          };
+      whole = whole-pushed w es entry h a.code.within a.code.finds s;
+      tree = is;
+      program = λ us l.
+          ap (source_trees us u) s ∙ sources_push us u w.sources.items entry
+          ∙ ap (λ ps. ps ++ source_tree us u entry ∷ [])
+          (sources-stay us w u w.sources.items h.table h.closed y h.sources ∙ a.back.program us)
+          ∙ ap (λ o. let e : SourceTree = record { source = o; tree = tree us u entry.root } in
+          program_of us t ++ e ∷ [])
+          a.code.source
+          ∙ ap (λ v. program_of us t ++ kept_tree_at at v ∷ []) (is us l);
+    }

@@ -399,18 +399,20 @@ pub made-of : (at : Addr) (e : Expr)
 made-of at e =
     record { term_is = refl; literals_are = refl; stays = kept-settled at e; outcome = λ w. literals-agree w at e }
 
-pub ready-made : (at : Addr) (units : List ℕ) (e : Expr) (p : PreparedSource) (order ls : List (List ℕ))
+pub ready-made : (at : Addr) (units : List ℕ) (e : Expr) (p : PreparedSource) (x : Term) (order ls : List (List ℕ))
+    → x ≡ term_view p.term
     → order ≡ p.order.items
     → ls ≡ p.literals.items
     → IsReady at units e p
-    → IsMadeOf at (expression_source e) order ls (term_view p.term)
-ready-made at units e p order ls f g i =
+    → IsMadeOf at (expression_source e) order ls x
+ready-made at units e p x order ls h f g i =
     let P : List (List ℕ) → Type 0 = λ o. AreSameLiterals o ls in
     let Q : List (List ℕ) → Type 0 = λ l. AreSameLiterals (source_literals e) l in
+    let is : x ≡ kept_tree at (expression_source e) = h ∙ i.term in
     record {
-      term_is = i.term;
+      term_is = is;
       literals_are = g ∙ i.literals;
-      stays = ap settle i.term ∙ kept-settled at e ∙ sym i.term;
+      stays = ap settle is ∙ kept-settled at e ∙ sym is;
       outcome = subst P (sym (f ∙ i.order)) (subst Q (sym (g ∙ i.literals)) (λ w. literals-agree w at e));
     }
 

@@ -15,6 +15,7 @@ pub mod EvaluatorLemmas
 pub mod ReturnLemmas
 pub mod ForgetLemmas
 pub mod KnownLemmas
+pub mod HoldLemmas
 pub mod WorkspaceLemmas
 pub mod EmptyLemmas
 pub mod OpenLemmas

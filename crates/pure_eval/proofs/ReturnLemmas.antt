@@ -68,6 +68,20 @@ came-after ends.Memory m p e f g c = tt
 
 -- ---- coming back
 
+pub again-by : (e new : Evaluator)
+    → GoesOn e.names new.names
+    → new.next ≡ e.next
+    → IsBack e.table new.table
+    → IsAgain e new
+again-by e new g x b = record {
+  goes_on = record { names = g; entries = []; table = b.table; whole = b.whole };
+  next = x;
+  runs =
+      λ p r. stands-same new.names new.names new.table new.table e.next new.next p refl refl x
+      (stands-back e.names new.names e.table new.table e.next p r g b);
+  program = b.program;
+}
+
 pub again : (first old new : Evaluator) (m : EvaluatorMark)
     → new.names ≡ old.names
     → new.next ≡ m.next
@@ -81,16 +95,19 @@ pub again : (first old new : Evaluator) (m : EvaluatorMark)
     → WentOn first old
     → IsAgain first new
 again first old new m n x back w k g =
-    let b : IsBack first.table new.table = back first.table g.entries w k.table g.table in
     let P : List (List ℕ) → Type 0 = λ ts. GoesOn first.names ts in
-    record {
-      goes_on = record { names = subst P (sym n) g.names; entries = []; table = b.table; whole = b.whole };
-      next = x ∙ k.next;
-      runs =
-          λ p r. stands-same old.names new.names new.table new.table first.next new.next p n refl (x ∙ k.next)
-          (stands-back first.names old.names first.table new.table first.next p r g.names b);
-      program = b.program;
-    }
+    again-by first new (subst P (sym n) g.names) (x ∙ k.next) (back first.table g.entries w k.table g.table)
+
+pub again-same : (e : Evaluator) → IsWhole e.table → IsAgain e e
+again-same e w = record { goes_on = went-same e w; next = refl; runs = λ p r. r; program = λ ts. refl }
+
+pub again-through : (a b c : Evaluator) → IsAgain a b → IsAgain b c → IsAgain a c
+again-through a b c g h = record {
+  goes_on = went-through a b c g.goes_on h.goes_on;
+  next = h.next ∙ g.next;
+  runs = λ p r. h.runs p (g.runs p r);
+  program = λ ts. h.program ts ∙ g.program ts;
+}
 
 pub came-again : (old new : Evaluator) (m : EvaluatorMark) (p : Program)
     → ((e : Evaluator) → IsWhole e.table → IsMarked e m → WentOn e old → IsAgain e new)

@@ -17,7 +17,7 @@ use Rattle.js_machine_nodes.specs.Trees.{constant_at, kids_between, terms, node_
 use Rattle.js_machine_nodes.specs.Codes.{code_of_parts, code_of_node, code_of_entry, code_of_number, indexed_code}
 use Rattle.js_machine_compiler.specs.Grown.{Begins, Extends}
 use Rattle.js_machine_nodes.proofs.TreeLemmas.{now-below, later-below, terms_same}
-use Rattle.pure_eval.specs.Whole.{names_entry, AreClosed, ArePlaced, IsWithin}
+use Rattle.pure_eval.specs.Whole.{names_entry, AreClosed, ArePlaced, IsWithin, Finds}
 use Rattle.js_machine_compiler.proofs.GrownLemmas.{begins_between, front}
 use Rattle.std.proofs.lemmas.Bool.{ltb-true}
 
@@ -184,10 +184,6 @@ code_number_stays ts t u (Some zero) table closed placed x b = refl
 code_number_stays ts t u (Some (suc n)) table closed placed x b =
     ap (code_of_entry ts u) (here t.functions.items u.functions.items n x.functions (omega (arith, b (suc n) refl)))
     ∙ code_entry_stays ts t u (slice_get t.functions.items n) table closed x (λ e h. placed n e (omega arith) h)
-
--- the index of a source finds the functions of its tree
-abbrev pub Finds : NodeTable → SourceEntry → Type 0
-Finds t e = (ts : List (List ℕ)) (x : ℕ) → function_in x (tree ts t e.root) ≡ indexed_code ts t e x
 
 pub finds-stay : (t u : NodeTable) (e : SourceEntry)
     → IsTable t

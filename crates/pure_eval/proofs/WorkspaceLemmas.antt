@@ -1,5 +1,5 @@
 -- What a session's evaluations go on from.
-use Rattle.std.proofs.Common.{◌≡◌, ℕ, suc, ◌≤◌, List, [], ◌∷◌, ◌++◌, length, take, refl, sym, ap, subst, ◌∙◌}
+use Rattle.std.proofs.Common.{◌≡◌, ℕ, suc, ◌≤◌, List, [], ◌∷◌, ◌++◌, length, take, Option, None, Some, refl, sym, ap, subst, ◌∙◌}
 use Rattle.std.proofs.Math.Seq.{take-length, take-append_seam}
 use Rattle.js_heap.specs.declared.value.Addr.{Addr}
 use Rattle.js_heap.specs.declared.value.Addr.TheVariants.{Scratch}
@@ -15,15 +15,21 @@ use Rattle.js_heap_memory.proofs.HeapLemmas.{cells-length}
 use Rattle.js_machine_nodes.specs.declared.node.SourceEntry.{SourceEntry}
 use Rattle.js_machine_nodes.specs.declared.table.NodeTable.{NodeTable}
 use Rattle.js_machine_nodes.specs.Trees.{source_tree, source_trees, program_of}
+use Rattle.js_machine_terms.specs.Views.{term_view}
 use Rattle.pure_eval.specs.declared.evaluator.Evaluator.{Evaluator}
 use Rattle.pure_eval.specs.declared.evaluator.EvaluatorMark.{EvaluatorMark}
 use Rattle.pure_eval.specs.Whole.{IsWhole}
 use Rattle.pure_eval.specs.Returning.{WentOn, IsMarked, IsAgain, IsCode, IsCodeOf}
-use Rattle.pure_eval.specs.Working.{IsWorking, IsOpen, IsKnown}
+use Rattle.pure_eval.specs.declared.holding.HeldCodes.{HeldCodes}
+use Rattle.pure_eval.specs.declared.holding.HeldCode.{HeldCode}
+use Rattle.pure_eval.specs.declared.prepared.PreparedSource.{PreparedSource}
+use Rattle.pure_eval.specs.Holding.{HeldSource, IsCodeAdded, held_sources, source_for, sources_held}
+use Rattle.pure_eval.specs.Working.{IsWorking, Holds, IsHolding, IsHeld, HoldsMore, IsOpen, IsKnown}
 use Rattle.pure_eval.specs.Workspaces.{Workspace, workspace_of, begun, emptied_workspace, OpenWorkspace, opened_of, opened}
 use Rattle.pure_eval.specs.Held.{marked_names}
-use Rattle.pure_eval.proofs.EvaluatorLemmas.{next-same, world-further}
-use Rattle.pure_eval.proofs.ReturnLemmas.{went-same, went-through, code-again}
+use Rattle.pure_eval.proofs.EvaluatorLemmas.{next-same, world-further, space-further}
+use Rattle.pure_eval.proofs.HoldLemmas.{holding-more, holds-again, sources-on, sources-with}
+use Rattle.pure_eval.proofs.ReturnLemmas.{again-by, went-same, went-through, code-again}
 use Rattle.pure_eval.proofs.StayLemmas.{sources-stay}
 
 -- ---- the program
@@ -55,6 +61,10 @@ pub working-first : (e : Evaluator) (n : ℕ) (m : EvaluatorMark)
     → IsWorking e n m
 working-first e n m c k f =
     record { code = c; first = e; first_code = c; marked = k; goes_on = went-same e c.runs.whole; count = sym f }
+
+-- no code is held
+pub working-alone : (e : Evaluator) (n : ℕ) (m : EvaluatorMark) → IsWorking e n m → IsHeld e n m None
+working-alone e n m w = record { working = w; holds = tt }
 
 -- ---- opened
 
@@ -105,16 +115,17 @@ opened-is e n m base h o k names marked known further over is =
     ∙ ap (λ y. made_open (heap_world names base) p x p y n) there
 
 pub open-is : (e : Evaluator) (n : ℕ) (start m : EvaluatorMark) (base h : Heap) (o : Over) (k : OverlayMark) (count : ℕ)
-    (next : Addr)
-    → IsWorking e n start
+    (next : Addr) (held : Option HeldCodes)
+    → IsHeld e n start held
     → IsMarked e m
     → ((ts : List (List ℕ)) → over_world ts o ≡ copied_world (heap_world ts base) (space_of ts h))
     → o.base ≡ base
     → k ≡ mark_of h
     → next ≡ next_of h
     → ((i : ℕ) → next ≡ Scratch i → count ≡ i)
-    → IsOpen e n start m base o k count next
-open-is e n start m base h o k count next working marked over based is next_is number =
+    → IsOpen e n start m base o k count next held
+open-is e n start m base h o k count next held holding marked over based is next_is number =
+    let working : IsWorking e n start = holding.working in
     let at : count ≡ length h.cells = number (length h.cells) next_is in
     let there : (ts : List (List ℕ))
     → space_after (over_world ts o) ≡ space_of ts h = λ ts. space_over ts base h o (over ts) in
@@ -122,6 +133,7 @@ open-is e n start m base h o k count next working marked over based is next_is n
       working = working;
       before = e;
       before_working = working;
+      before_holds = holding.holds;
       marked = marked;
       goes_on = went-same e working.code.runs.whole;
       base_is = based;
@@ -185,29 +197,45 @@ emptied-is old new n m h k w cut f =
 pub emptied-working : (old new : Evaluator) (n : ℕ) (m : EvaluatorMark)
     → IsWorking old n m
     → ((e : Evaluator) → IsWhole e.table → IsMarked e m → WentOn e old → IsAgain e new)
-    → IsWorking new n m
+    → IsHeld new n m None
 emptied-working old new n m w cut =
     let a : IsAgain w.first new = cut w.first w.first_code.runs.whole w.marked w.goes_on in
-    working-again w.first new n m (working-first w.first n m w.first_code w.marked (sym w.count)) a
+    working-alone new n m
+    (working-again w.first new n m (working-first w.first n m w.first_code w.marked (sym w.count)) a)
 
 pub forgotten-working : (e new : Evaluator) (n : ℕ) (start m : EvaluatorMark) (base : Heap) (o : Over) (k : OverlayMark)
-    (count : ℕ) (next : Addr)
-    → IsOpen e n start m base o k count next
+    (count : ℕ) (next : Addr) (held : Option HeldCodes)
+    → IsOpen e n start m base o k count next held
     → ((b : Evaluator) → IsWhole b.table → IsMarked b m → WentOn b e → IsAgain b new)
-    → IsWorking new n start
-forgotten-working e new n start m base o k count next i cut =
-    working-again i.before new n start i.before_working
-    (cut i.before i.before_working.code.runs.whole i.marked i.goes_on)
+    → IsHeld new n start held
+forgotten-working e new n start m base o k count next held i cut =
+    let w : IsWhole i.before.table = i.before_working.code.runs.whole in
+    let a : IsAgain i.before new = cut i.before w i.marked i.goes_on in
+    record {
+      working = working-again i.before new n start i.before_working a;
+      holds = holds-again i.before new n start held w i.before_holds a;
+    }
+
+pub forgotten-held : (e new : Evaluator) (n : ℕ) (start m : EvaluatorMark) (base : Heap) (o : Over) (k : OverlayMark)
+    (count : ℕ) (next : Addr) (held : Option HeldCodes)
+    → IsOpen e n start m base o k count next held
+    → ((b : Evaluator) → IsWhole b.table → IsMarked b m → WentOn b e → IsAgain b new)
+    → sources_held new.names new.table held ≡ sources_held e.names e.table held
+forgotten-held e new n start m base o k count next held i cut =
+    let w : IsWhole i.before.table = i.before_working.code.runs.whole in
+    let a : IsAgain i.before new = cut i.before w i.marked i.goes_on in
+    sources-on i.before new n start held w i.before_holds a.goes_on
+    ∙ sym (sources-on i.before e n start held w i.before_holds i.goes_on)
 
 pub forgotten-is : (e new : Evaluator) (n : ℕ) (start m : EvaluatorMark) (base h g : Heap) (o : Over) (k : OverlayMark)
-    (count : ℕ) (next : Addr)
-    → IsOpen e n start m base o k count next
+    (count : ℕ) (next : Addr) (held : Option HeldCodes)
+    → IsOpen e n start m base o k count next held
     → ((b : Evaluator) → IsWhole b.table → IsMarked b m → WentOn b e → IsAgain b new)
     → new.names ≡ e.names
     → ((ts : List (List ℕ)) → space_of ts h ≡ space_after (over_world ts o))
     → ((ts : List (List ℕ)) → space_of ts g ≡ space_at (space_of ts h) k)
     → workspace_of new n g ≡ (opened_of e n m base o k).before
-forgotten-is e new n start m base h g o k count next i cut names over was =
+forgotten-is e new n start m base h g o k count next held i cut names over was =
     let a : IsAgain i.before new = cut i.before i.before_working.code.runs.whole i.marked i.goes_on in
     made_same (program_of new.names new.table) (take m.table.sources (program_of e.names e.table)) n n
     (space_of new.names g) (space_at (space_after (over_world e.names o)) k)
@@ -247,3 +275,74 @@ pub names-stay : (old new : Evaluator) (n : ℕ) (m : EvaluatorMark)
 names-stay old new n m w g =
     names_since w.first new m w.marked (went-through w.first old new w.goes_on g)
     ∙ sym (names_since w.first old m w.marked w.goes_on)
+
+-- ---- code that is held
+
+pub dropped-working : (e new : Evaluator) (n : ℕ) (m : EvaluatorMark) (h : HeldCodes)
+    → IsHolding e n m h
+    → ((b : Evaluator) → IsWhole b.table → IsMarked b h.mark → WentOn b e → IsAgain b new)
+    → IsHeld new n m None
+dropped-working e new n m h i cut =
+    let a : IsAgain i.before new = cut i.before i.working.code.runs.whole i.marked i.again.goes_on in
+    working-alone new n m (working-again i.before new n m i.working a)
+
+-- the same workspace
+pub dropped-is : (e new : Evaluator) (n : ℕ) (m : EvaluatorMark) (h : HeldCodes) (g : Heap)
+    → IsHolding e n m h
+    → ((b : Evaluator) → IsWhole b.table → IsMarked b h.mark → WentOn b e → IsAgain b new)
+    → new.names ≡ e.names
+    → workspace_of new n g ≡ workspace_of e n g
+dropped-is e new n m h g i cut names =
+    let a : IsAgain i.before new = cut i.before i.working.code.runs.whole i.marked i.again.goes_on in
+    made_same (program_of new.names new.table) (program_of e.names e.table) n n (space_of new.names g)
+    (space_of e.names g)
+    ((code-again i.before new i.working.code a).program
+    ∙ sym (code-again i.before e i.working.code i.again).program)
+    refl
+    (ap (λ ts. space_of ts g) names)
+
+-- behind code of which no source is had the workspace is the same
+pub more-is : (e new : Evaluator) (n : ℕ) (m : EvaluatorMark) (g : Heap) (held : Option HeldCodes) (h : HeldCodes)
+    (s : HeldSource)
+    → IsWorking e n m
+    → HoldsMore e new n m held h s
+    → ((names more : List (List ℕ)) → g.ends ≤ length names → space_of (names ++ more) g ≡ space_of names g)
+    → g.ends ≤ length e.names
+    → workspace_of new n g ≡ workspace_of e n g
+more-is e new n m g held h s w i further known =
+    made_same (program_of new.names new.table) (program_of e.names e.table) n n (space_of new.names g)
+    (space_of e.names g)
+    (code-again e new w.code i.again).program
+    refl
+    (space-further e.names new.names g i.again.goes_on.names further known)
+
+pub more-held : (e new : Evaluator) (n : ℕ) (m : EvaluatorMark) (held : Option HeldCodes) (h : HeldCodes)
+    (s : HeldSource)
+    → HoldsMore e new n m held h s
+    → IsHeld new n m (Some h)
+more-held e new n m held h s i = record { working = i.working; holds = i.holds }
+
+-- the code of one source more
+pub holds-more : (old new : Evaluator) (n : ℕ) (start : EvaluatorMark) (held : Option HeldCodes) (h k : HeldCodes)
+    (at : Addr) (p : PreparedSource) (c : HeldCode)
+    → IsHeld old n start held
+    → IsHolding old n start h
+    → held_sources old.names old.table h.codes.items ≡ sources_held old.names old.table held
+    → new.next ≡ old.next
+    → IsCodeAdded old.names old.table at (term_view p.term) new.names new.table c.entry
+    → c.source ≡ p.source
+    → c.at ≡ at
+    → k.mark ≡ h.mark
+    → k.codes.items ≡ h.codes.items ++ c ∷ []
+    → HoldsMore old new n start held k (source_for at p)
+holds-more old new n start held h k at p c i holding sources next added text place mark items =
+    let w : IsWhole old.table = i.working.code.runs.whole in
+    let again : IsAgain old new = again-by old new added.goes_on next added.back in
+    record {
+      working = working-again old new n start i.working again;
+      holds = holding-more old new n start h k at (term_view p.term) c w holding again added.code place mark items;
+      again = again;
+      sources =
+          sources-with old new n start h k at p c w holding again added.code text place items
+          ∙ ap (λ hs. hs ++ source_for at p ∷ []) sources;
+    }

@@ -10,6 +10,7 @@ pub mod Preparing
 pub mod Arguments
 pub mod Calling
 pub mod Returning
+pub mod Holding
 pub mod TermCodes
 pub mod Working
 pub mod Workspaces

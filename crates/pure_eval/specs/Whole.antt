@@ -1,13 +1,14 @@
 -- Tables that mean the same however they go on: what nodes and sources name by number is there.
-use Rattle.std.specs.Prelude.{◌≡◌, ℕ, ◌<◌, ◌≤◌, Bool, true, Some, length, slice_get, nat_lt}
+use Rattle.std.specs.Prelude.{◌≡◌, ℕ, ◌<◌, ◌≤◌, Bool, true, List, Some, length, slice_get, nat_lt}
+use Rattle.js_semantics.specs.Functions.{function_in}
 use Rattle.js_machine_nodes.specs.declared.op.Op.{Op}
 use Rattle.js_machine_nodes.specs.declared.op.Op.TheVariants as ops
 use Rattle.js_machine_nodes.specs.declared.node.Node.{Node}
 use Rattle.js_machine_nodes.specs.declared.node.FunctionEntry.{FunctionEntry}
 use Rattle.js_machine_nodes.specs.declared.node.SourceEntry.{SourceEntry}
 use Rattle.js_machine_nodes.specs.declared.table.NodeTable.{NodeTable}
-use Rattle.js_machine_nodes.specs.Codes.{HasFunctions}
-use Rattle.js_machine_nodes.specs.Trees.{IsTable}
+use Rattle.js_machine_nodes.specs.Codes.{HasFunctions, indexed_code}
+use Rattle.js_machine_nodes.specs.Trees.{IsTable, tree}
 use Rattle.js_machine_compiler.specs.Grown.{HasPlaces}
 
 -- whether a number is one of an entry, where what a node does names one
@@ -40,6 +41,10 @@ ArePlaced t from =
 pub record IsWithin (t : NodeTable) (e : SourceEntry) : Type 0 where
   pub root : e.root < length t.nodes.items
   pub numbers : (x m : ℕ) → slice_get e.functions.items x ≡ Some m → m ≤ length t.functions.items
+
+-- the index of a source finds the functions of its tree
+abbrev pub Finds : NodeTable → SourceEntry → Type 0
+Finds t e = (ts : List (List ℕ)) (x : ℕ) → function_in x (tree ts t e.root) ≡ indexed_code ts t e x
 
 -- each source's node and the functions of its index are there
 abbrev pub AreWithin : NodeTable → Type 0

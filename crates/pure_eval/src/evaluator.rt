@@ -5,14 +5,13 @@ ghost use Rattle.js_tree.specs.declared.tree.Expr.{Expr};
 ghost use Rattle.js_semantics.specs.Evaluation.{answered, next_kept, with_source};
 ghost use Rattle.js_semantics.specs.Functions.{Program};
 ghost use Rattle.js_semantics.specs.Literals.{source_literals};
-ghost use Rattle.js_semantics.specs.Makers.{MadeExpression};
 ghost use Rattle.js_semantics.specs.Run.{program_from};
 ghost use Rattle.js_semantics.specs.Sources.{expression_source};
 ghost use Rattle.js_semantics.specs.Terms.{settle};
 ghost use Rattle.js_heap_memory.specs.Heaps.{heap_world};
 ghost use Rattle.js_heap_memory.specs.Names.{GoesOn};
 ghost use Rattle.js_heap_memory.specs.Overlays.{space_of, next_of};
-ghost use Rattle.js_machine_nodes.specs.declared.node.SourceEntry.{SourceEntry};
+ghost use Rattle.js_machine_nodes.specs.declared.node.SourceEntry.{SourceEntry as AnyEntry};
 ghost use Rattle.js_machine_nodes.specs.declared.table.NodeTable.{NodeTable as AnyTable};
 ghost use Rattle.js_machine_nodes.specs.Codes.{HasFunctions};
 ghost use Rattle.js_machine_nodes.specs.Trees.{tree, program_of, IsTable};
@@ -21,7 +20,8 @@ ghost use Rattle.pure_eval.specs.Adding.{GoesOnWith, kept_tree_at};
 ghost use Rattle.pure_eval.specs.Calling.{worked, work_of, HasCall};
 ghost use Rattle.pure_eval.specs.Cutting.{IsMarkOf, IsBack};
 ghost use Rattle.pure_eval.specs.Whole.{IsWhole};
-ghost use Rattle.pure_eval.specs.Evaluators.{Runs, IsMadeOf, IsBehind, is_kept, RunsAfter};
+ghost use Rattle.pure_eval.specs.Evaluators.{Runs, IsBehind, is_kept, RunsAfter};
+ghost use Rattle.pure_eval.specs.Holding.{IsHeldAt, code_term};
 ghost use Rattle.pure_eval.specs.Leaving.{Leaves};
 ghost use Rattle.pure_eval.specs.Orders.{AreSameLiterals, ready_in_order};
 ghost use Rattle.pure_eval.specs.Preparing.{IsReady};
@@ -44,6 +44,7 @@ use js_heap_memory::overlay::Scratch;
 use js_heap_memory::world::World;
 use js_machine_compiler::scripts::{ScriptCode, code_of_scripts};
 use js_machine_engine::rows::Rows;
+use js_machine_nodes::node::SourceEntry;
 use js_machine_nodes::table::NodeTable;
 use js_machine_terms::term::{Term, Terms};
 use std::alloc::{AllocError, Global};
@@ -209,7 +210,7 @@ impl Evaluator {
         self.next = mark.next;
     }
 
-    /// Adds a source at the next address of a session's cells.
+    /// Adds a source at the next address of a session's cells: that of a term, or of code that is held.
     ///
     /// # Errors
     ///
@@ -220,9 +221,12 @@ impl Evaluator {
         base: &BaseHeap,
         scratch: &Scratch,
         term: &Term,
+        held: Option<SourceEntry>,
     ) -> Result<Added, AllocError>
-        requires { IsWhole self.old.table }
-        ensures { IfOk result (λ a. HasAdded self.old self.new base.now scratch.now (term_view term.now) a) }
+        requires whole { IsWhole self.old.table }
+        requires held { IsHeldAt self.old.names self.old.table (next_of scratch.now) held }
+        ensures { IfOk result (λ a. HasAdded self.old self.new base.now scratch.now
+            (code_term self.old.names self.old.table (term_view term.now) held) a) }
     {
         let at = scratch.next_address();
         let Some(next) = number_behind(at, self.next) else {
@@ -232,7 +236,7 @@ impl Evaluator {
             return Err(AllocError);
         }
         let mark = mark(&self.table);
-        let node = add_source(alloc, &mut self.names, &mut self.table, at, term)?;
+        let node = add_source(alloc, &mut self.names, &mut self.table, at, term, held)?;
         Ok(Added { mark, next, node })
     }
 
@@ -240,7 +244,7 @@ impl Evaluator {
     fn keep(&mut self, mark: TableMark, next: u32, end: Evaluated)
         ensures names { self.new.names ≡ self.old.names }
         ensures kept { is_kept end ≡ true → (self.new.table ≡ self.old.table) × (self.new.next ≡ next) }
-        ensures cut { is_kept end ≡ false → (self.new.next ≡ self.old.next) × ((t : AnyTable) (es : List SourceEntry) → IsWhole t → IsMarkOf t mark → GoesOnWith t self.old.table es → IsBack t self.new.table) }
+        ensures cut { is_kept end ≡ false → (self.new.next ≡ self.old.next) × ((t : AnyTable) (es : List AnyEntry) → IsWhole t → IsMarkOf t mark → GoesOnWith t self.old.table es → IsBack t self.new.table) }
     {
         if is_kept(end) {
             self.next = next;
@@ -249,29 +253,39 @@ impl Evaluator {
         cut(&mut self.table, mark);
     }
 
-    /// What becomes of a source over a program's cells and behind those of a session: the answer is the definition's, with
-    /// the cells that it made, or with those of before. The source is given with its term, in which its literals have their
-    /// addresses, and with its literals in its own order and in that of the term. Behind a value or a throw the evaluator has
-    /// the source. After want of memory it is given up, and so are the session's cells.
-    pub fn evaluate<T: Rows>(
+    /// What becomes of a source that is ready at the next address of a session's cells, over a program's cells and behind
+    /// those of the session: the answer is the definition's, with the cells that it made, or with those of before. Code that
+    /// is held of it is taken in place of its term. Behind a value or a throw the evaluator has the source. After want of
+    /// memory it is given up, and so are the session's cells.
+    pub fn evaluate_ready<T: Rows>(
         &mut self,
         alloc: Global,
         base: &BaseHeap,
         scratch: Scratch,
         work: Work<'_>,
-        source: &Units,
-        order: &[Units],
-        literals: &[Units],
-        term: &Term,
+        prepared: &PreparedSource,
+        held: Option<SourceEntry>,
     ) -> Outcome
-        requires { IsWhole self.old.table }
-        ensures answer { (p : Program) (e : MadeExpression) → Runs self.old p → IsMadeOf (next_kept (space_of self.old.names scratch)) e order.now literals.now (term_view term.now) → Leaves (work_of p (heap_world self.old.names base.now) (space_of self.old.names scratch) source.now order.now e work.entry) result.end (space_of self.old.names scratch) (space_of self.new.names result.scratch) }
-        ensures program { (p : Program) (e : MadeExpression) → Runs self.old p → IsMadeOf (next_kept (space_of self.old.names scratch)) e order.now literals.now (term_view term.now) → RunsAfter result.end self.new p (with_source p (space_of self.old.names scratch) e) }
+        requires whole { IsWhole self.old.table }
+        requires held { IsHeldAt self.old.names self.old.table (next_of scratch) held }
+        ensures answer { (p : Program) (source : List ℕ) (tree : Expr) → Runs self.old p
+            → IsReady (next_kept (space_of self.old.names scratch)) source tree prepared.now
+            → code_term self.old.names self.old.table (term_view prepared.now.term) held ≡ term_view prepared.now.term
+            → Leaves (work_of p (heap_world self.old.names base.now) (space_of self.old.names scratch) source
+            (source_literals tree) (expression_source tree) work.entry) result.end (space_of self.old.names scratch)
+            (space_of self.new.names result.scratch) }
+        ensures program { (p : Program) (source : List ℕ) (tree : Expr) → Runs self.old p
+            → IsReady (next_kept (space_of self.old.names scratch)) source tree prepared.now
+            → code_term self.old.names self.old.table (term_view prepared.now.term) held ≡ term_view prepared.now.term
+            → RunsAfter result.end self.new p
+            (with_source p (space_of self.old.names scratch) (expression_source tree)) }
         ensures goes_on { WentOnAfter result.end self.old self.new }
         ensures came { (m : EvaluatorMark) (p : Program) → CameFrom m p self.old → CameAfter result.end m p self.new }
-        ensures code { IsCode self.old → CodeAfter result.end self.new (program_of self.old.names self.old.table) (kept_tree_at (next_of scratch) (term_view term.now)) }
+        ensures code { IsCode self.old → CodeAfter result.end self.new (program_of self.old.names self.old.table)
+            (kept_tree_at (next_of scratch)
+            (code_term self.old.names self.old.table (term_view prepared.now.term) held)) }
     {
-        let Ok(added) = self.add(alloc, base, &scratch, term) else {
+        let Ok(added) = self.add(alloc, base, &scratch, &prepared.term, held) else {
             return Outcome {
                 end: Evaluated::Memory,
                 scratch,
@@ -292,42 +306,12 @@ impl Evaluator {
             scratch,
             self.call,
             work,
-            source,
-            order,
-            literals,
+            &prepared.source,
+            prepared.order.as_slice(),
+            prepared.literals.as_slice(),
             added.node,
         );
         self.keep(added.mark, added.next, outcome.end);
         outcome
-    }
-
-    /// What becomes of a source that is ready at the next address of a session's cells, over a program's cells and behind
-    /// those of the session: the answer is the definition's, with the cells that it made, or with those of before. Behind a
-    /// value or a throw the evaluator has the source. After want of memory it is given up, and so are the session's cells.
-    pub fn evaluate_ready<T: Rows>(
-        &mut self,
-        alloc: Global,
-        base: &BaseHeap,
-        scratch: Scratch,
-        work: Work<'_>,
-        prepared: &PreparedSource,
-    ) -> Outcome
-        requires { IsWhole self.old.table }
-        ensures answer { (p : Program) (source : List ℕ) (tree : Expr) → Runs self.old p → IsReady (next_kept (space_of self.old.names scratch)) source tree prepared.now → Leaves (work_of p (heap_world self.old.names base.now) (space_of self.old.names scratch) source (source_literals tree) (expression_source tree) work.entry) result.end (space_of self.old.names scratch) (space_of self.new.names result.scratch) }
-        ensures program { (p : Program) (source : List ℕ) (tree : Expr) → Runs self.old p → IsReady (next_kept (space_of self.old.names scratch)) source tree prepared.now → RunsAfter result.end self.new p (with_source p (space_of self.old.names scratch) (expression_source tree)) }
-        ensures goes_on { WentOnAfter result.end self.old self.new }
-        ensures came { (m : EvaluatorMark) (p : Program) → CameFrom m p self.old → CameAfter result.end m p self.new }
-        ensures code { IsCode self.old → CodeAfter result.end self.new (program_of self.old.names self.old.table) (kept_tree_at (next_of scratch) (term_view prepared.now.term)) }
-    {
-        self.evaluate::<T>(
-            alloc,
-            base,
-            scratch,
-            work,
-            &prepared.source,
-            prepared.order.as_slice(),
-            prepared.literals.as_slice(),
-            &prepared.term,
-        )
     }
 }

@@ -20,6 +20,7 @@ mod closed;
 mod cutting;
 mod evaluated;
 mod evaluator;
+mod holding;
 pub mod laws;
 mod literals;
 mod orders;

@@ -1,6 +1,6 @@
 //! What a session's evaluations go on from.
 
-ghost use Rattle.std.specs.Prelude.{◌≡◌, ℕ, List, [], true, false, IfOk, take};
+ghost use Rattle.std.specs.Prelude.{◌≡◌, ◌⊎◌, ◌++◌, ◌∷◌, ℕ, List, [], true, false, IfOk, take};
 ghost use Rattle.js_heap.specs.declared.value.Addr.TheVariants.{Scratch as scratch_place};
 ghost use Rattle.js_heap.specs.ScratchSpaces.{copied_world};
 ghost use Rattle.js_semantics.specs.Evaluation.{evaluate_expression, evaluate_function, next_kept};
@@ -17,6 +17,7 @@ ghost use Rattle.js_heap_memory.specs.Overlays.{over_world};
 ghost use Rattle.pure_eval.specs.Answering.{is_memory};
 ghost use Rattle.pure_eval.specs.Arguments.{arguments_of};
 ghost use Rattle.pure_eval.specs.Calling.{work_of};
+ghost use Rattle.pure_eval.specs.Holding.{AreOf, AreOfChoice, HoldsToo, source_for};
 ghost use Rattle.pure_eval.specs.Preparing.{IsReady, IsPrepared, IsPreparedFunction};
 ghost use Rattle.pure_eval.specs.Returning.{IsCodeOf};
 ghost use Rattle.pure_eval.specs.Working.{IsKnown};
@@ -25,6 +26,9 @@ ghost use Rattle.pure_eval.specs.Workspaces.{begun, emptied_workspace, opened, E
 use crate::arguments::Argument;
 use crate::evaluated::{Evaluated, is_memory};
 use crate::evaluator::{Evaluator, EvaluatorMark};
+use crate::holding::{
+    CodeChoice, HeldCodes, MOST_HELD, chosen_entry, count_held, hold_code, place_held,
+};
 use crate::prepared::PreparedSource;
 use crate::session::Outcome;
 use crate::work::Work;
@@ -40,7 +44,7 @@ use std::alloc::{AllocError, Global};
 use std::marker::Model;
 
 /// The code that a session's evaluations run, and the cells that they made. Contracts see beside them the names with
-/// which it began.
+/// which it began, and the sources of which the code is held.
 #[derive(Drop)]
 pub struct Workspace {
     evaluator: Evaluator,
@@ -48,21 +52,23 @@ pub struct Workspace {
     // how many of the sources are scripts, and where their code and their names end
     scripts: usize,
     start: EvaluatorMark,
+    // code that no source has, behind all others
+    held: Option<HeldCodes>,
 }
 
 impl Model for Workspace {
     ghost use Rattle.std.specs.Coded.{codes};
     ghost use Rattle.pure_eval.specs.TermCodes.{term_coded};
-    ghost use Rattle.pure_eval.specs.Held as held;
-    ghost use Rattle.pure_eval.specs.Working.{IsWorking};
+    ghost use Rattle.pure_eval.specs.Held as kept;
+    ghost use Rattle.pure_eval.specs.Working.{IsHeld};
 
-    ghost Value = { held.HeldWorkspace };
+    ghost Value = { kept.HeldWorkspace };
 
     ghost coded = { Prim.hlevel (codes, term_coded) };
 
-    ghost view = { λ w. held.held_of w.evaluator w.scripts w.start w.scratch };
+    ghost view = { λ w. kept.held_of w.evaluator w.scripts w.start w.held w.scratch };
 
-    ghost invariant = { λ w. IsWorking w.evaluator w.scripts w.start };
+    ghost invariant = { λ w. IsHeld w.evaluator w.scripts w.start w.held };
 }
 
 /// The cells of a program with those of a session, and the names of both.
@@ -82,6 +88,8 @@ pub struct OpenWorkspace<'b> {
     world: Overlay<'b>,
     scripts: usize,
     start: EvaluatorMark,
+    // code that no source has, behind all others that there were when it was opened
+    held: Option<HeldCodes>,
     // where the code, and how many cells there were, when it was opened
     mark: EvaluatorMark,
     cells: OverlayMark,
@@ -93,16 +101,18 @@ pub struct OpenWorkspace<'b> {
 impl<'b> Model for OpenWorkspace<'b> {
     ghost use Rattle.std.specs.Coded.{codes};
     ghost use Rattle.pure_eval.specs.TermCodes.{term_coded};
-    ghost use Rattle.pure_eval.specs.Held as held;
+    ghost use Rattle.pure_eval.specs.Held as kept;
     ghost use Rattle.pure_eval.specs.Working.{IsOpen};
 
-    ghost Value = { held.HeldOpenWorkspace };
+    ghost Value = { kept.HeldOpenWorkspace };
 
     ghost coded = { Prim.hlevel (codes, term_coded) };
 
-    ghost view = { λ o. held.held_open_of o.evaluator o.scripts o.start o.mark o.base.now o.world o.cells };
+    ghost view = { λ o. kept.held_open_of o.evaluator o.scripts o.start o.held o.mark o.base.now o.world
+        o.cells };
 
-    ghost invariant = { λ o. IsOpen o.evaluator o.scripts o.start o.mark o.base.now o.world o.cells o.count o.next };
+    ghost invariant = { λ o. IsOpen o.evaluator o.scripts o.start o.mark o.base.now o.world o.cells o.count o.next
+        o.held };
 }
 
 /// Whether a program's names are all that its cells need, and the first of those with which a workspace began: of so
@@ -160,6 +170,7 @@ fn given_up<'b>(alloc: Global, base: &'b BaseHeap) -> OpenWorkspace<'b> {
         world,
         scripts: start.table.sources,
         start,
+        held: None,
         mark,
         cells,
         count,
@@ -177,6 +188,7 @@ impl Workspace {
     pub fn start(alloc: Global, names: &NameTable, scripts: &Terms) -> Result<Workspace, AllocError>
         ensures workspace { IfOk result (λ w. w.workspace ≡ begun (program_from 1 (terms_view scripts.now))) }
         ensures names { IfOk result (λ w. GoesOn names.now w.names) }
+        ensures held { IfOk result (λ w. w.held ≡ []) }
     {
         let evaluator = Evaluator::start(alloc, names, scripts)?;
         let start = evaluator.mark();
@@ -186,6 +198,7 @@ impl Workspace {
             scratch,
             scripts: start.table.sources,
             start,
+            held: None,
         })
     }
 
@@ -193,12 +206,97 @@ impl Workspace {
     pub fn empty(&mut self)
         ensures workspace { self.new.workspace ≡ emptied_workspace self.old.workspace }
         ensures names { self.new.names ≡ self.old.names }
+        ensures held { self.new.held ≡ [] }
     {
         let alloc = *self.evaluator.table.sources.allocator();
         let start = self.start;
         let scratch = Scratch::new(alloc);
         self.evaluator.cut(start);
         self.scratch = scratch;
+        self.held = None;
+    }
+
+    /// Gives up the code that is held. It takes no memory.
+    pub fn drop_held(&mut self)
+        ensures workspace { self.new.workspace ≡ self.old.workspace }
+        ensures names { self.new.names ≡ self.old.names }
+        ensures held { self.new.held ≡ [] }
+    {
+        let Some(held) = self.held.take() else {
+            return;
+        };
+        self.evaluator.cut(held.mark);
+    }
+
+    /// The address at which the source of the next evaluation would be kept.
+    pub fn next_address(&self) -> Addr
+        ensures { result ≡ next_kept self.now.workspace.scratch }
+    {
+        self.scratch.next_address()
+    }
+
+    /// The workspace with room to hold one code more: where there is none, all that is held is given up.
+    fn with_room(self) -> Workspace
+        ensures workspace { result.workspace ≡ self.workspace }
+        ensures names { result.names ≡ self.names }
+        ensures held { (result.held ≡ self.held) ⊎ (result.held ≡ []) }
+    {
+        if count_held(&self.held) < MOST_HELD {
+            return self;
+        }
+        let mut workspace = self;
+        workspace.drop_held();
+        workspace
+    }
+
+    /// Holds the code of a source which was prepared for the next address, behind what is held.
+    fn hold_more(self, alloc: Global, prepared: &PreparedSource) -> Result<Workspace, AllocError>
+        ensures workspace { IfOk result (λ w. w.workspace ≡ self.workspace) }
+        ensures names { IfOk result (λ w. w.names ≡ self.names) }
+        ensures held { IfOk result (λ w.
+            w.held ≡ self.held ++ source_for (next_kept self.workspace.scratch) prepared.now ∷ []) }
+    {
+        let Workspace {
+            evaluator,
+            scratch,
+            scripts,
+            start,
+            held,
+        } = self;
+        // this doesn't come up; that it doesn't is tested here rather than carried on
+        if scratch.known() > evaluator.names.len() {
+            return Err(AllocError);
+        }
+        scratch.goes_on();
+        let at = scratch.next_address();
+        let mut evaluator = evaluator;
+        let codes = hold_code(alloc, &mut evaluator, held, at, prepared)?;
+        Ok(Workspace {
+            evaluator,
+            scratch,
+            scripts,
+            start,
+            held: Some(codes),
+        })
+    }
+
+    /// Holds the code of a source which was prepared for the next address, so that evaluations of its text there need not
+    /// add it. At most [`MOST_HELD`] are held; before one more all others are given up.
+    ///
+    /// # Errors
+    ///
+    /// There is no memory for it, or something in the source comes up in a run alone.
+    pub fn hold(self, alloc: Global, prepared: &PreparedSource) -> Result<Workspace, AllocError>
+        ensures workspace { IfOk result (λ w. w.workspace ≡ self.workspace) }
+        ensures names { IfOk result (λ w. w.names ≡ self.names) }
+        ensures held { IfOk result (λ w.
+            HoldsToo (source_for (next_kept self.workspace.scratch) prepared.now) self.held w.held) }
+    {
+        let at = self.next_address();
+        if place_held(&self.held, at, &prepared.source).is_some() {
+            return Ok(self);
+        }
+        self.with_room().hold_more(alloc, prepared)
     }
 
     /// Whether a program's names are the first of those with which it began, and all that the program's cells need. Each
@@ -216,6 +314,7 @@ impl Workspace {
         ensures opened { (names : List (List ℕ)) → IsKnown base.now names self.names
             → result.workspace ≡ opened (heap_world names base.now) self.workspace }
         ensures names { result.names ≡ self.names }
+        ensures held { result.held ≡ self.held }
     {
         base.goes_on();
         let Workspace {
@@ -223,6 +322,7 @@ impl Workspace {
             scratch,
             scripts,
             start,
+            held,
         } = self;
         let mark = evaluator.mark();
         let cells = scratch.mark();
@@ -235,6 +335,7 @@ impl Workspace {
             world,
             scripts,
             start,
+            held,
             mark,
             cells,
             count,
@@ -257,13 +358,16 @@ impl<'b> OpenWorkspace<'b> {
         alloc: Global,
         work: Work<'_>,
         prepared: &PreparedSource,
+        choice: CodeChoice,
     ) -> Evaluated
         ensures answer { (source : List ℕ) (tree : Expr)
             → IsReady (next_kept self.old.workspace.behind.scratch) source tree prepared.now
+            → AreOfChoice choice (next_kept self.old.workspace.behind.scratch) prepared.now self.old.held
             → EvaluatesTo (work_of self.old.workspace.behind.program self.old.workspace.world self.old.workspace.behind.scratch
             source (source_literals tree) (expression_source tree) work.entry)
             (expression_source tree) result self.old.workspace self.new.workspace }
         ensures names { is_memory result ≡ false → self.new.names ≡ self.old.names }
+        ensures held { is_memory result ≡ false → self.new.held ≡ self.old.held }
     {
         let base = self.base;
         // neither of these comes up in a workspace that was opened; that they don't is tested here rather than carried on
@@ -273,13 +377,16 @@ impl<'b> OpenWorkspace<'b> {
         if number_of(self.next) < self.count {
             return Evaluated::Memory;
         }
+        let Ok(entry) = chosen_entry(choice, &self.held, self.next, &prepared.source) else {
+            return Evaluated::Memory;
+        };
         base.goes_on();
         let empty = Overlay::over(base, Scratch::new(alloc));
         let world = std::mem::replace(&mut self.world, empty);
         let scratch = world.into_scratch();
         let outcome = self
             .evaluator
-            .evaluate_ready::<T>(alloc, base, scratch, work, prepared);
+            .evaluate_ready::<T>(alloc, base, scratch, work, prepared, entry);
         if is_memory(outcome.end) {
             // nothing is known of the code that is left
             *self = given_up(alloc, base);
@@ -308,7 +415,38 @@ impl<'b> OpenWorkspace<'b> {
             (expression_source e.tree) result self.old.workspace self.new.workspace }
         ensures names { is_memory result ≡ false → self.new.names ≡ self.old.names }
     {
-        self.evaluate_ready::<T>(alloc, Work::Expression { scope, receiver }, prepared)
+        self.evaluate_ready::<T>(
+            alloc,
+            Work::Expression { scope, receiver },
+            prepared,
+            CodeChoice::New,
+        )
+    }
+
+    /// Evaluates an expression as [`OpenWorkspace::evaluate`] does, by the code that is held of its text at the next
+    /// address, where there is some.
+    pub fn evaluate_held<T: Rows>(
+        &mut self,
+        alloc: Global,
+        scope: Addr,
+        receiver: Value,
+        prepared: &PreparedSource,
+    ) -> Evaluated
+        ensures answer { (e : Expression)
+            → IsPrepared (next_kept self.old.workspace.behind.scratch) e prepared.now
+            → AreOf (next_kept self.old.workspace.behind.scratch) prepared.now self.old.held
+            → EvaluatesTo (evaluate_expression self.old.workspace.behind.program self.old.workspace.world
+            self.old.workspace.behind.scratch scope receiver e)
+            (expression_source e.tree) result self.old.workspace self.new.workspace }
+        ensures names { is_memory result ≡ false → self.new.names ≡ self.old.names }
+        ensures held { is_memory result ≡ false → self.new.held ≡ self.old.held }
+    {
+        self.evaluate_ready::<T>(
+            alloc,
+            Work::Expression { scope, receiver },
+            prepared,
+            CodeChoice::Held,
+        )
     }
 
     /// Calls a function, which was prepared for the next address, in the script scope with a `this` and arguments. The cells of
@@ -336,6 +474,7 @@ impl<'b> OpenWorkspace<'b> {
                 arguments,
             },
             prepared,
+            CodeChoice::New,
         )
     }
 
@@ -350,10 +489,11 @@ impl<'b> OpenWorkspace<'b> {
         }
     }
 
-    /// The workspace with all that evaluations made since it was opened. It takes no memory.
+    /// The workspace with all that evaluations made since it was opened; no code is held any more. It takes no memory.
     pub fn keep(self) -> Workspace
         ensures workspace { result.workspace ≡ self.entry.workspace.behind }
         ensures names { result.names ≡ self.entry.names }
+        ensures held { result.held ≡ [] }
     {
         let OpenWorkspace {
             evaluator,
@@ -361,12 +501,14 @@ impl<'b> OpenWorkspace<'b> {
             world,
             scripts,
             start,
+            held,
             mark,
             cells,
             count,
             next,
         } = self;
         let _ = base;
+        let _ = held;
         let _ = mark;
         let _ = cells;
         let _ = count;
@@ -377,12 +519,15 @@ impl<'b> OpenWorkspace<'b> {
             scratch,
             scripts,
             start,
+            held: None,
         }
     }
+
     /// The workspace as it was opened. It takes no memory.
     pub fn forget(self) -> Workspace
         ensures workspace { result.workspace ≡ self.entry.workspace.before }
         ensures names { result.names ≡ self.entry.names }
+        ensures held { result.held ≡ self.entry.held }
     {
         let OpenWorkspace {
             evaluator,
@@ -390,6 +535,7 @@ impl<'b> OpenWorkspace<'b> {
             world,
             scripts,
             start,
+            held,
             mark,
             cells,
             count,
@@ -407,6 +553,7 @@ impl<'b> OpenWorkspace<'b> {
             scratch,
             scripts,
             start,
+            held,
         }
     }
 }

@@ -13,4 +13,4 @@ returns-clause-answer g c = λ f prepared.
     let P : Answer → Type 0 = λ a. EvaluatesTo a (expression_source f.tree) c.evaluate_ready.result old new in
     subst P (sym
     (call-is old.behind.program old.world old.behind.scratch f c.args.receiver (arguments_of c.args.arguments.now)))
-    (c.evaluate_ready.ensures.answer f.source f.tree prepared)
+    (c.evaluate_ready.ensures.answer f.source f.tree prepared tt)

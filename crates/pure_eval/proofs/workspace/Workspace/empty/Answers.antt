@@ -6,13 +6,14 @@ use Rattle.pure_eval.proofs.workspace.Workspace.empty.Goals as goal
 
 pub invariant_of-self : goal.invariant_of-self
 invariant_of-self c =
-    emptied-working c.self.inside.evaluator c.cut.new.self c.self.inside.scripts c.self.inside.start c.self.invariant
+    emptied-working c.self.inside.evaluator c.cut.new.self c.self.inside.scripts c.self.inside.start
+    c.self.invariant.working
     c.cut.ensures.back
 
 pub returns-clause-workspace : goal.returns-clause-workspace
 returns-clause-workspace c =
     let w = c.self.inside in
-    emptied-is w.evaluator c.cut.new.self w.scripts w.start w.scratch c.new-scratch.result c.self.invariant
+    emptied-is w.evaluator c.cut.new.self w.scripts w.start w.scratch c.new-scratch.result c.self.invariant.working
     c.cut.ensures.back
     (c.new-scratch.ensures c.cut.new.self.names)
     ∙ ap (λ (h : HeldWorkspace). emptied_workspace h.workspace) c.self.view_is

@@ -11,7 +11,7 @@ pub invariant_of-result : goal.invariant_of-result
 invariant_of-result c =
     let w = c.self.inside in
     open-is w.evaluator w.scripts w.start c.mark-mark.result c.args.base.now w.scratch c.over-world.result
-    c.mark-cells.result c.number_of-count.result c.next_address-next.result c.self.invariant
+    c.mark-cells.result c.number_of-count.result c.next_address-next.result w.held c.self.invariant
     c.mark-mark.ensures.marked c.over-world.ensures.world c.over-world.ensures.known.0 c.mark-cells.ensures
     c.next_address-next.ensures c.number_of-count.ensures
 
@@ -28,3 +28,6 @@ returns-clause-opened c = λ names known.
 
 pub returns-clause-names : goal.returns-clause-names
 returns-clause-names c = ap (λ (h : HeldWorkspace). h.names) c.self.view_is
+
+pub returns-clause-held : goal.returns-clause-held
+returns-clause-held c = ap (λ (h : HeldWorkspace). h.held) c.self.view_is

@@ -1,12 +1,13 @@
 use Rattle.js_semantics.specs.Run.{program_from}
 use Rattle.js_machine_terms.specs.Views.{terms_view}
-use Rattle.pure_eval.proofs.WorkspaceLemmas.{begun-is, goes-marked, working-first}
+use Rattle.pure_eval.proofs.WorkspaceLemmas.{begun-is, goes-marked, working-alone, working-first}
 use Rattle.pure_eval.proofs.workspace.Workspace.start.Goals as goal
 
 pub invariant_of-result : goal.invariant_of-result
 invariant_of-result c =
-    working-first c.in_ok-evaluator.evaluator c.mark-start.result.table.sources c.mark-start.result
-    c.in_ok-evaluator.ensures.code.code c.mark-start.ensures.marked c.mark-start.ensures.marked.table.sources
+    working-alone c.in_ok-evaluator.evaluator c.mark-start.result.table.sources c.mark-start.result
+    (working-first c.in_ok-evaluator.evaluator c.mark-start.result.table.sources c.mark-start.result
+    c.in_ok-evaluator.ensures.code.code c.mark-start.ensures.marked c.mark-start.ensures.marked.table.sources)
 
 pub returns-clause-workspace : goal.returns-clause-workspace
 returns-clause-workspace c =

@@ -1,0 +1,4 @@
+use Rattle.pure_eval.proofs.workspace.OpenWorkspace.evaluate_held.Goals as goal
+
+pub returns-clause-answer : goal.returns-clause-answer
+returns-clause-answer g c = λ e prepared fits. c.evaluate_ready.ensures.answer e.source e.tree prepared fits
