@@ -12,7 +12,7 @@ use Rattle.js_heap.specs.declared.value.Value.TheVariants as values
 use Rattle.js_parser_language.specs.Places.{expression_places, numbers_of}
 use Rattle.js_parser_numbering.specs.Numbered.{numbered_made}
 use Rattle.js_parser.specs.Expressions.{expression_of}
-use Rattle.js_semantics.specs.Evaluation.{Answer, a_result, evaluate, evaluate_expression}
+use Rattle.js_semantics.specs.Evaluation.{Answer, a_result, evaluate, evaluate_expression, kept_tree}
 use Rattle.js_semantics.specs.Literals.{expression_literals}
 use Rattle.js_tree.specs.Trees as trees
 use Rattle.js_tree.specs.Views.{expression_view}
@@ -22,10 +22,15 @@ use Rattle.breakpoints.specs.Breakpoints as breakpoints
 use Rattle.breakpoints.specs.Breakpoints.{hits_at}
 use Rattle.breakpoints.specs.declared.breakpoint.Breakpoint.{Breakpoint}
 use Rattle.frames_scopes_types.specs.Frames.{ShownFrame}
+use Rattle.js_machine_terms.specs.Views.{term_view}
+use Rattle.pure_eval.specs.declared.prepared.PreparedSource.{PreparedSource}
+use Rattle.pure_eval.specs.Holding.{HeldSource}
 use Rattle.pure_eval.specs.Preparing.{IsPrepared}
 use Rattle.pure_eval.specs.Workspaces.{Workspace}
 use Rattle.cdp_session.specs.Evaluations.{innermost}
 use Rattle.cdp_session.specs.Situations.{Standing}
+use Rattle.cdp_session.specs.declared.evaluations.Making.{Making}
+use Rattle.cdp_session.specs.declared.evaluations.Making.TheVariants as makings
 use Rattle.cdp_session.specs.declared.ready.Ready.{Ready}
 use Rattle.cdp_session.specs.declared.top.Top.{Top}
 
@@ -120,3 +125,30 @@ IsParsed source (Some e) = IsParsedTo source e
 abbrev pub IsKeptReady : Expression → Option Ready → Type 0
 IsKeptReady e None = Unit {0}
 IsKeptReady e (Some r) = IsPrepared r.at e r.source
+
+-- an expression that its text was parsed to, and what is kept of it
+pub record IsReadyFor (e : Expression) (o : Option Ready) : Type 0 where
+  pub parsed : IsParsedTo e.source e
+  pub kept : IsKeptReady e o
+
+-- a source that is ready at an address has the term of the expression that its text is
+pub record IsReadyText (at : Addr) (p : PreparedSource) : Type 0 where
+  pub tree : trees.Expression
+  pub is : expression_of p.source ≡ Some tree
+  pub term : term_view p.term ≡ kept_tree at (numbered_made tree)
+
+-- ---- code that is held
+
+-- a source of which the code is held has the term of the expression that its text is, if it is one
+abbrev pub IsRead : HeldSource → Type 0
+IsRead h = (e : trees.Expression) → expression_of h.source ≡ Some e → h.term ≡ kept_tree h.at (numbered_made e)
+
+-- all such sources have
+abbrev pub AreRead : List HeldSource → Type 0
+AreRead [] = Unit {0}
+AreRead (h ∷ hs) = IsRead h × AreRead hs
+
+-- those of a workspace have, if there is one
+abbrev pub HoldsRead : Making → Type 0
+HoldsRead (makings.Made w) = AreRead w.held
+HoldsRead making = Unit {0}

@@ -126,7 +126,7 @@ fn comes_true(opened: &OpenWorkspace<'_>, end: Evaluated) -> Result<bool, AllocE
 }
 
 /// Whether an expression comes to a value that counts as true in the top frame of the program. Nothing of its evaluation is kept
-/// but what it was made ready as.
+/// but what it was made ready as, and its code is held.
 fn holds_at_top<P: Program>(
     alloc: Global,
     evaluations: &mut Evaluations<'_>,
@@ -139,13 +139,13 @@ fn holds_at_top<P: Program>(
     ensures same { expression.new ≡ expression.old }
 {
     let Top { scope, this } = situation.program.top();
-    let mut opened = evaluations.open(alloc, situation)?;
+    let prepared = evaluations.hold(alloc, situation.program, expression)?;
+    let mut opened = evaluations.open_holding(alloc, situation)?;
     let at = opened.next_address();
-    let prepared = expression.prepared(alloc, situation.program, at)?;
-    let end = opened.evaluate::<StepTable>(alloc, scope, this, &prepared);
+    let end = opened.evaluate_held::<StepTable>(alloc, scope, this, &prepared);
     expression.keep(at, prepared);
     let holds = comes_true(&opened, end)?;
-    evaluations.put(opened.forget());
+    evaluations.put_holding(opened.forget());
     Ok(holds)
 }
 

@@ -2,6 +2,7 @@
 
 ghost use Rattle.std.specs.Prelude.{◌≡◌, IfOk, IfSome};
 ghost use Rattle.pure_eval.specs.Preparing.{IsPrepared};
+ghost use Rattle.cdp_session.specs.Conditions.{IsParsedTo, IsReadyText};
 
 use crate::program::Program;
 use js_heap::value::Addr;
@@ -18,7 +19,7 @@ pub(crate) struct Ready {
     source: PreparedSource,
 }
 
-/// An expression with what it was last made ready as, if it was. Contracts see the expression.
+/// An expression that its text was parsed to, with what it was last made ready as, if it was. Contracts see the expression.
 #[derive(Drop)]
 pub(crate) struct ReadyExpression {
     expression: Expression,
@@ -28,7 +29,7 @@ pub(crate) struct ReadyExpression {
 impl Model for ReadyExpression {
     ghost use Rattle.js_tree.specs.contracts.script.Expression as held;
     ghost use Rattle.js_tree.specs.declared.script.Expression.{Expression as Parsed};
-    ghost use Rattle.cdp_session.specs.Conditions.{IsKeptReady};
+    ghost use Rattle.cdp_session.specs.Conditions.{IsReadyFor};
 
     ghost Value = { Parsed };
 
@@ -36,12 +37,13 @@ impl Model for ReadyExpression {
 
     ghost view = { λ e. e.expression };
 
-    ghost invariant = { λ e. IsKeptReady e.expression e.ready };
+    ghost invariant = { λ e. IsReadyFor e.expression e.ready };
 }
 
 impl ReadyExpression {
     /// An expression that wasn't made ready yet.
     pub(crate) fn new(expression: Expression) -> ReadyExpression
+        requires { IsParsedTo expression.source expression }
         ensures { result ≡ expression }
     {
         ReadyExpression {
@@ -79,6 +81,7 @@ impl ReadyExpression {
         at: Addr,
     ) -> Result<PreparedSource, AllocError>
         ensures ready { IfOk result (λ p. IsPrepared at self.old p) }
+        ensures read { IfOk result (λ p. IsReadyText at p) }
         ensures same { self.new ≡ self.old }
     {
         match self.kept(at) {

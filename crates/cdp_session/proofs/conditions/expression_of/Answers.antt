@@ -1,4 +1,4 @@
-use Rattle.std.proofs.Common.{◌≡◌, subst, sym, ◌∙◌, Some, None, Err}
+use Rattle.std.proofs.Common.{◌≡◌, refl, subst, sym, ◌∙◌, Some, None, Err}
 use Rattle.js_tree.specs.declared.script.Expression.{Expression}
 use Rattle.js_tree.specs.Views.{expression_view}
 use Rattle.js_parser.specs.Expressions.{expression_of, UnlessMemory}
@@ -6,6 +6,17 @@ use Rattle.js_parser.proofs.ExpressionLemmas.{expression_some, expression_none}
 use Rattle.cdp_session.specs.Conditions.{IsParsedTo}
 use Rattle.cdp_session.proofs.conditions.expression_of.Goals as goal
 use Rattle.js_parser.proofs.NodeTextLemmas.{unless_lacking}
+
+pub new-requires : goal.new-requires
+new-requires c =
+    let ex = c.in-Ok.expression in
+    record {
+      tree =
+          subst (λ t. expression_of t ≡ Some (expression_view ex.tree)) (sym c.in-Ok.ensures.kept)
+          (expression_some c.as_slice.result.now (expression_view ex.tree) c.in-Ok.ensures.found);
+      kept = refl;
+      numbered = c.in-Ok.ensures.numbered;
+    }
 
 pub returns-in-Ok : goal.returns-in-Ok
 returns-in-Ok c =
