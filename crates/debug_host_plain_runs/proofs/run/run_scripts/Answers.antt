@@ -49,3 +49,6 @@ returns-clause-part g c =
     (comes_short (terms_of_scripts c.args.scripts.now) c.args.input.items c.in-Ok.started
     (g.O.Sink.content c.args.out.now) (g.O.Sink.content c.run_on.new.out) c.in-Ok.ensures
     (c.in-Err-Failed.ensures.less (ap Err c.in-Err-Failed.field-0-is)))
+
+pub returns-clause-failed : goal.returns-clause-failed
+returns-clause-failed g c = λ is. c.in-Err-Failed.ensures.failed (ap Err c.in-Err-Failed.field-0-is)
