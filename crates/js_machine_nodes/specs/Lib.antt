@@ -1,3 +1,4 @@
+pub mod Lists
 pub mod Ops
 pub mod Forms
 pub mod Trees
