@@ -3,6 +3,7 @@ use Rattle.std.proofs.Common.{◌≡◌, List, [], ◌∷◌, ◌++◌, refl}
 use Rattle.std.specs.Global.{Vec}
 use Rattle.js_heap.specs.declared.value.Value.{Value}
 use Rattle.js_heap_memory.specs.declared.stored.Slot.{Slot}
+use Rattle.js_machine_nodes.specs.Lists.{Items}
 use Rattle.js_machine_nodes.specs.declared.node.ScriptEntry.{ScriptEntry}
 use Rattle.js_machine_nodes.specs.declared.node.ForEntry.{ForEntry}
 use Rattle.js_machine_nodes.specs.declared.node.ForOfEntry.{ForOfEntry}
@@ -13,7 +14,7 @@ use Rattle.js_machine_nodes.specs.declared.table.NodeTable.{NodeTable}
 use Rattle.js_machine_compiler.specs.Grown.{KeepsTable}
 use Rattle.js_machine_compiler.proofs.GrownLemmas.{begins_same, begins_more, same_nodes, same_places}
 
-pub keeps_constants : (t : NodeTable) (xs : Vec Value) (x : Value)
+pub keeps_constants : (t : NodeTable) (xs : Items Value) (x : Value)
     → xs.items ≡ t.constants.items ++ x ∷ []
     → KeepsTable t (record t { constants = xs })
 keeps_constants t xs x e = record {
@@ -37,7 +38,7 @@ keeps_constants t xs x e = record {
   sources = refl;
 }
 
-pub keeps_blocks : (t : NodeTable) (xs : Vec (List Slot)) (x : List Slot)
+pub keeps_blocks : (t : NodeTable) (xs : Items (List Slot)) (x : List Slot)
     → xs.items ≡ t.blocks.items ++ x ∷ []
     → KeepsTable t (record t { blocks = xs })
 keeps_blocks t xs x e = record {
@@ -61,7 +62,7 @@ keeps_blocks t xs x e = record {
   sources = refl;
 }
 
-pub keeps_scripts : (t : NodeTable) (xs : Vec ScriptEntry) (x : ScriptEntry)
+pub keeps_scripts : (t : NodeTable) (xs : Items ScriptEntry) (x : ScriptEntry)
     → xs.items ≡ t.scripts.items ++ x ∷ []
     → KeepsTable t (record t { scripts = xs })
 keeps_scripts t xs x e = record {
@@ -85,7 +86,7 @@ keeps_scripts t xs x e = record {
   sources = refl;
 }
 
-pub keeps_fors : (t : NodeTable) (xs : Vec ForEntry) (x : ForEntry)
+pub keeps_fors : (t : NodeTable) (xs : Items ForEntry) (x : ForEntry)
     → xs.items ≡ t.fors.items ++ x ∷ []
     → KeepsTable t (record t { fors = xs })
 keeps_fors t xs x e = record {
@@ -109,7 +110,7 @@ keeps_fors t xs x e = record {
   sources = refl;
 }
 
-pub keeps_for_ofs : (t : NodeTable) (xs : Vec ForOfEntry) (x : ForOfEntry)
+pub keeps_for_ofs : (t : NodeTable) (xs : Items ForOfEntry) (x : ForOfEntry)
     → xs.items ≡ t.for_ofs.items ++ x ∷ []
     → KeepsTable t (record t { for_ofs = xs })
 keeps_for_ofs t xs x e = record {
@@ -133,7 +134,7 @@ keeps_for_ofs t xs x e = record {
   sources = refl;
 }
 
-pub keeps_functions : (t : NodeTable) (xs : Vec FunctionEntry) (x : FunctionEntry)
+pub keeps_functions : (t : NodeTable) (xs : Items FunctionEntry) (x : FunctionEntry)
     → xs.items ≡ t.functions.items ++ x ∷ []
     → KeepsTable t (record t { functions = xs })
 keeps_functions t xs x e = record {
@@ -156,7 +157,7 @@ keeps_functions t xs x e = record {
   sources = refl;
 }
 
-pub keeps_objects : (t : NodeTable) (xs : Vec (Vec MemberEntry)) (x : Vec MemberEntry)
+pub keeps_objects : (t : NodeTable) (xs : Items (Vec MemberEntry)) (x : Vec MemberEntry)
     → xs.items ≡ t.objects.items ++ x ∷ []
     → KeepsTable t (record t { objects = xs })
 keeps_objects t xs x e = record {
@@ -179,7 +180,7 @@ keeps_objects t xs x e = record {
   sources = refl;
 }
 
-pub keeps_calls : (t : NodeTable) (xs : Vec CallEntry) (x : CallEntry)
+pub keeps_calls : (t : NodeTable) (xs : Items CallEntry) (x : CallEntry)
     → xs.items ≡ t.calls.items ++ x ∷ []
     → KeepsTable t (record t { calls = xs })
 keeps_calls t xs x e = record {

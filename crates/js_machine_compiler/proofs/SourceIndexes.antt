@@ -1,9 +1,9 @@
 -- Sources with their indexes: the trees and the code of a table don't depend on its sources.
 use Rattle.std.proofs.Common.{◌≡◌, ℕ, zero, suc, ◌+◌, ◌<◌, List, [], ◌∷◌, ◌++◌, length, take, get_or, Option, None, Some, if◌then◌else◌, slice_get, refl, sym, ap, subst, ◌∙◌}
-use Rattle.std.specs.Global.{Vec}
 use Rattle.std.proofs.lemmas.List.{take_more}
 use Rattle.js_semantics.specs.Terms.{Term, done, part, Terms, more}
 use Rattle.js_semantics.specs.Functions.{function_in, SourceTree}
+use Rattle.js_machine_nodes.specs.Lists.{Items}
 use Rattle.js_machine_nodes.specs.declared.op.Op.{Op}
 use Rattle.js_machine_nodes.specs.declared.op.Op.TheVariants as ops
 use Rattle.js_machine_nodes.specs.declared.node.Node.{Node}
@@ -21,13 +21,13 @@ use Rattle.js_machine_compiler.proofs.GrownLemmas.{begins_same, same_nodes, same
 
 -- ---- a table with other sources
 
-same_form : (ts : List (List ℕ)) (t : NodeTable) (es : Vec SourceEntry) (op : Op) (info : ℕ)
+same_form : (ts : List (List ℕ)) (t : NodeTable) (es : Items SourceEntry) (op : Op) (info : ℕ)
     → form_of ts (with_sources t es) op info ≡ form_of ts t op info
 unfolding form_of
 same_form ts t es ops.Literal info = refl
 same_form ts t es _ info = refl
 
-same_constant : (t : NodeTable) (es : Vec SourceEntry) (n : ℕ) → constant_at (with_sources t es) n ≡ constant_at t n
+same_constant : (t : NodeTable) (es : Items SourceEntry) (n : ℕ) → constant_at (with_sources t es) n ≡ constant_at t n
 unfolding constant_at
 same_constant t es n = refl
 
@@ -35,7 +35,7 @@ same_terms : (a b : ℕ → Term) → ((n : ℕ) → a n ≡ b n) → (ks : List
 same_terms a b h [] = refl
 same_terms a b h (k ∷ ks) = ap (λ t. more t (terms a ks)) (h k) ∙ ap (more (b k)) (same_terms a b h ks)
 
-same_node : (ts : List (List ℕ)) (t : NodeTable) (es : Vec SourceEntry) (a b : ℕ → Term) (o : Option Node)
+same_node : (ts : List (List ℕ)) (t : NodeTable) (es : Items SourceEntry) (a b : ℕ → Term) (o : Option Node)
     → ((n : ℕ) → a n ≡ b n)
     → node_term ts (with_sources t es) a o ≡ node_term ts t b o
 same_node ts t es a b None h = refl
@@ -53,34 +53,34 @@ same_node ts t es a b (Some node) h =
     (terms b (kids_between t node.first node.mid)) us)
     (same_terms a b h (kids_between t node.mid node.end))
 
-same_within : (ts : List (List ℕ)) (t : NodeTable) (es : Vec SourceEntry) (fuel n : ℕ)
+same_within : (ts : List (List ℕ)) (t : NodeTable) (es : Items SourceEntry) (fuel n : ℕ)
     → tree_within ts (with_sources t es) fuel n ≡ tree_within ts t fuel n
 same_within ts t es zero n = refl
 same_within ts t es (suc fuel) n =
     same_node ts t es (tree_within ts (with_sources t es) fuel) (tree_within ts t fuel) (slice_get t.nodes.items n)
     (same_within ts t es fuel)
 
-same_tree : (ts : List (List ℕ)) (t : NodeTable) (es : Vec SourceEntry) (n : ℕ)
+same_tree : (ts : List (List ℕ)) (t : NodeTable) (es : Items SourceEntry) (n : ℕ)
     → tree ts (with_sources t es) n ≡ tree ts t n
 unfolding tree
 same_tree ts t es n = same_within ts t es (suc n) n
 
-same_trees : (ts : List (List ℕ)) (t : NodeTable) (es : Vec SourceEntry) (from to : ℕ)
+same_trees : (ts : List (List ℕ)) (t : NodeTable) (es : Items SourceEntry) (from to : ℕ)
     → trees ts (with_sources t es) from to ≡ trees ts t from to
 same_trees ts t es from to =
     same_terms (tree ts (with_sources t es)) (tree ts t) (same_tree ts t es) (kids_between t from to)
 
-same_code : (ts : List (List ℕ)) (t : NodeTable) (es : Vec SourceEntry) (f : FunctionEntry) (o : Option Node)
+same_code : (ts : List (List ℕ)) (t : NodeTable) (es : Items SourceEntry) (f : FunctionEntry) (o : Option Node)
     → code_of_node ts (with_sources t es) f o ≡ code_of_node ts t f o
 same_code ts t es f None = refl
 same_code ts t es f (Some node) = ap (code_of_parts (function_of ts f)) (same_trees ts t es node.mid node.end)
 
-same_entry : (ts : List (List ℕ)) (t : NodeTable) (es : Vec SourceEntry) (o : Option FunctionEntry)
+same_entry : (ts : List (List ℕ)) (t : NodeTable) (es : Items SourceEntry) (o : Option FunctionEntry)
     → code_of_entry ts (with_sources t es) o ≡ code_of_entry ts t o
 same_entry ts t es None = refl
 same_entry ts t es (Some f) = same_code ts t es f (slice_get t.nodes.items f.at)
 
-same_number : (ts : List (List ℕ)) (t : NodeTable) (es : Vec SourceEntry) (o : Option ℕ)
+same_number : (ts : List (List ℕ)) (t : NodeTable) (es : Items SourceEntry) (o : Option ℕ)
     → code_of_number ts (with_sources t es) o ≡ code_of_number ts t o
 same_number ts t es None = refl
 same_number ts t es (Some zero) = refl
@@ -98,28 +98,23 @@ indexed_push t (d ∷ ss) [] s e h k = absurd h
 indexed_push t (d ∷ ss) (f ∷ es) s e h k = (h.0, indexed_push t ss es s e h.1 k)
 
 -- one more source
-pub indexed_more : (t : NodeTable) (all sources : List SourceEntry) (i : ℕ) (s e : SourceEntry)
-    (old new : List SourceEntry)
-    → sources ≡ all
+pub indexed_more : (t : NodeTable) (all : List SourceEntry) (i : ℕ) (s e : SourceEntry) (old new : List SourceEntry)
     → AreIndexed t (take i all) old
     → IsIndexed t s e
-    → s ≡ get_or sources i s
-    → i < length sources
+    → s ≡ get_or all i s
+    → i < length all
     → new ≡ old ++ e ∷ []
     → AreIndexed t (take (i + 1) all) new
-indexed_more t all sources i s e old new same h k is l n =
-    let q : take (i + 1) sources ≡ take i sources ++ s ∷ [] = take_more sources i s l
-    ∙ ap (λ y. take i sources ++ y ∷ []) (sym is) in
-    let r : take (i + 1) all ≡ take i all ++ s ∷ [] = ap (take (i + 1)) (sym same)
-    ∙ q
-    ∙ ap (λ ss. take i ss ++ s ∷ []) same in
+indexed_more t all i s e old new h k is l n =
+    let r : take (i + 1) all ≡ take i all ++ s ∷ [] = take_more all i s l
+    ∙ ap (λ y. take i all ++ y ∷ []) (sym is) in
     subst (λ (ss : List SourceEntry). AreIndexed t ss new) (sym r)
     (subst (λ (es : List SourceEntry). AreIndexed t (take i all ++ s ∷ []) es) (sym n)
     (indexed_push t (take i all) old s e h k))
 
 -- ---- all of them
 
-program_same : (ts : List (List ℕ)) (t : NodeTable) (us : Vec SourceEntry) (ss es : List SourceEntry)
+program_same : (ts : List (List ℕ)) (t : NodeTable) (us : Items SourceEntry) (ss es : List SourceEntry)
     → AreIndexed t ss es
     → source_trees ts (with_sources t us) es ≡ source_trees ts t ss
 program_same ts t us [] [] h = refl
@@ -137,7 +132,7 @@ program_same ts t us (s ∷ ss) (e ∷ es) h =
     k.root
     ∙ ap (λ ps. source_tree ts t s ∷ ps) (program_same ts t us ss es h.1)
 
-found_same : (t : NodeTable) (us : Vec SourceEntry) (ss es : List SourceEntry)
+found_same : (t : NodeTable) (us : Items SourceEntry) (ss es : List SourceEntry)
     → AreIndexed t ss es
     → (ts : List (List ℕ)) (i : ℕ) (e : SourceEntry)
     → slice_get es i ≡ Some e
@@ -154,7 +149,7 @@ found_same t us (s ∷ ss) (f ∷ es) h ts zero e g x =
     ∙ sym (same_number ts t us (slice_get e.functions.items x))
 found_same t us (s ∷ ss) (f ∷ es) h ts (suc i) e g x = found_same t us ss es h.1 ts i e g x
 
-indexed_compiled : (ts : List (List ℕ)) (xs : Terms) (t : NodeTable) (es : Vec SourceEntry) (root : ℕ)
+indexed_compiled : (ts : List (List ℕ)) (xs : Terms) (t : NodeTable) (es : Items SourceEntry) (root : ℕ)
     → HasNodes ts xs t root
     → AreIndexed t t.sources.items es.items
     → IsCompiled ts xs (with_sources t es) root

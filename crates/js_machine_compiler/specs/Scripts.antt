@@ -1,12 +1,12 @@
 -- The code of scripts.
 use Rattle.std.specs.Prelude.{◌≡◌, ℕ, false, List, [], ◌∷◌, ◌++◌, Option, Some, None}
-use Rattle.std.specs.Global.{Vec}
 use Rattle.js_semantics.specs.declared.form.Form.TheVariants.{Scripts as scripts}
 use Rattle.js_semantics.specs.declared.form.Source.TheVariants.{Script as script_source}
 use Rattle.js_semantics.specs.Terms.{Terms, part, end}
 use Rattle.js_semantics.specs.Functions.{Program}
 use Rattle.js_semantics.specs.Run.{program_from}
 use Rattle.js_heap_memory.specs.Names.{GoesOn}
+use Rattle.js_machine_nodes.specs.Lists.{Items}
 use Rattle.js_machine_nodes.specs.declared.node.SourceEntry.{SourceEntry}
 use Rattle.js_machine_nodes.specs.declared.table.NodeTable.{NodeTable}
 use Rattle.js_machine_nodes.specs.Codes.{HasFunctions}
@@ -53,7 +53,7 @@ HaveNodes ts xs None = are_plain xs ≡ false
 HaveNodes ts xs (Some c) = HasNodes ts xs c.table c.root
 
 -- a table with other sources
-abbrev pub with_sources : NodeTable → Vec SourceEntry → NodeTable
+abbrev pub with_sources : NodeTable → Items SourceEntry → NodeTable
 with_sources t es = record t { sources = es }
 
 -- the code has an index for each source, and is otherwise the same

@@ -14,12 +14,13 @@ use js_heap::cell::{Binding, ScopeNames};
 use js_heap_memory::names::{NameId, NameTable};
 use js_machine_nodes::node::{CallEntry, ForEntry, ForOfEntry, FunctionEntry, ScriptEntry};
 use js_machine_nodes::op::Op;
+use js_machine_nodes::shared_list::SharedList;
 use js_machine_nodes::table::NodeTable;
 use js_semantics::form::{FunctionForm, Mark, Members};
 use std::alloc::{AllocError, Global};
 
 /// One more entry of a list, with its number.
-pub fn put<T: Drop>(entries: &mut Vec<T>, entry: T) -> Result<u32, AllocError>
+pub fn put<T: Drop>(entries: &mut SharedList<T>, entry: T) -> Result<u32, AllocError>
     ensures more { OnOk result (entries.new.items ≡ entries.old.items ++ entry ∷ []) }
     ensures place { IfOk result (λ n. slice_get entries.new.items n ≡ Some entry) }
 {

@@ -116,8 +116,8 @@ pub fn indexed_sources(alloc: Global, table: &NodeTable) -> Result<Vec<SourceEnt
     ensures { IfOk result (λ es. AreIndexed table.now table.now.sources.items es.items) }
 {
     let mut sources = Vec::new(alloc);
-    for source in &table.sources {
-        sources.push(indexed_source(alloc, table, source)?)?;
+    for i in 0..table.sources.len() {
+        sources.push(indexed_source(alloc, table, table.sources.at(i))?)?;
     }
     Ok(sources)
 }

@@ -14,6 +14,7 @@ use crate::terms::add_term;
 use js_heap_memory::names::NameTable;
 use js_machine_nodes::node::SourceEntry;
 use js_machine_nodes::op::Op;
+use js_machine_nodes::shared_list::SharedList;
 use js_machine_nodes::table::NodeTable;
 use js_machine_terms::term::{Term, Terms};
 use js_semantics::form::Source;
@@ -110,7 +111,7 @@ fn with_indexes(alloc: Global, mut code: ScriptCode) -> Result<ScriptCode, Alloc
     requires places { HasPlaces code.table }
     ensures { IfOk result (λ c. IsIndexedCode code c) }
 {
-    code.table.sources = indexed_sources(alloc, &code.table)?;
+    code.table.sources = SharedList::from_vec(indexed_sources(alloc, &code.table)?);
     Ok(code)
 }
 

@@ -1,31 +1,34 @@
 //! The table of nodes.
 
+ghost use Rattle.std.specs.Prelude.{◌≡◌, IfOk, OnOk};
 ghost use Rattle.js_machine_nodes.specs.Trees.{IsEmpty};
 
 use crate::node::{
     CallEntry, ForEntry, ForOfEntry, FunctionEntry, MemberEntry, Node, ScriptEntry, SourceEntry,
 };
+use crate::shared_list::SharedList;
 use js_heap::value::Value;
 use js_heap_memory::stored::Slots;
-use std::alloc::Global;
+use std::alloc::{AllocError, Global};
 
-/// The nodes of all sources of a program, with the parts that they have and the entries that they name by number.
+/// The nodes of all sources of a program, with the parts that they have and the entries that they name by number. What
+/// stands in front in each list may be shared with other tables.
 #[derive(Drop)]
 pub struct NodeTable {
-    pub nodes: Vec<Node>,
+    pub nodes: SharedList<Node>,
     /// Parts of nodes, by their numbers in `nodes`.
-    pub kids: Vec<u32>,
-    pub constants: Vec<Value>,
+    pub kids: SharedList<u32>,
+    pub constants: SharedList<Value>,
     /// The names of blocks.
-    pub blocks: Vec<Slots>,
-    pub scripts: Vec<ScriptEntry>,
-    pub fors: Vec<ForEntry>,
-    pub for_ofs: Vec<ForOfEntry>,
-    pub functions: Vec<FunctionEntry>,
+    pub blocks: SharedList<Slots>,
+    pub scripts: SharedList<ScriptEntry>,
+    pub fors: SharedList<ForEntry>,
+    pub for_ofs: SharedList<ForOfEntry>,
+    pub functions: SharedList<FunctionEntry>,
     /// The members of object literals.
-    pub objects: Vec<Vec<MemberEntry>>,
-    pub calls: Vec<CallEntry>,
-    pub sources: Vec<SourceEntry>,
+    pub objects: SharedList<Vec<MemberEntry>>,
+    pub calls: SharedList<CallEntry>,
+    pub sources: SharedList<SourceEntry>,
 }
 
 impl NodeTable {
@@ -34,17 +37,66 @@ impl NodeTable {
         ensures { IsEmpty result }
     {
         NodeTable {
-            nodes: Vec::new(alloc),
-            kids: Vec::new(alloc),
-            constants: Vec::new(alloc),
-            blocks: Vec::new(alloc),
-            scripts: Vec::new(alloc),
-            fors: Vec::new(alloc),
-            for_ofs: Vec::new(alloc),
-            functions: Vec::new(alloc),
-            objects: Vec::new(alloc),
-            calls: Vec::new(alloc),
-            sources: Vec::new(alloc),
+            nodes: SharedList::new(alloc),
+            kids: SharedList::new(alloc),
+            constants: SharedList::new(alloc),
+            blocks: SharedList::new(alloc),
+            scripts: SharedList::new(alloc),
+            fors: SharedList::new(alloc),
+            for_ofs: SharedList::new(alloc),
+            functions: SharedList::new(alloc),
+            objects: SharedList::new(alloc),
+            calls: SharedList::new(alloc),
+            sources: SharedList::new(alloc),
         }
+    }
+
+    /// From now on other tables may have its entries in front, if there is memory for that (`another` says whether).
+    /// Nothing else changes.
+    pub fn share(&mut self)
+        ensures { self.new ≡ self.old }
+    {
+        self.nodes.share();
+        self.kids.share();
+        self.constants.share();
+        self.blocks.share();
+        self.scripts.share();
+        self.fors.share();
+        self.for_ofs.share();
+        self.functions.share();
+        self.objects.share();
+        self.calls.share();
+        self.sources.share();
+    }
+
+    /// Becomes another table with the same entries in front as one that was shared.
+    fn become_another(&mut self, table: &NodeTable) -> Result<(), AllocError>
+        ensures { OnOk result (self.new ≡ table.now) }
+    {
+        self.nodes = table.nodes.another()?;
+        self.kids = table.kids.another()?;
+        self.constants = table.constants.another()?;
+        self.blocks = table.blocks.another()?;
+        self.scripts = table.scripts.another()?;
+        self.fors = table.fors.another()?;
+        self.for_ofs = table.for_ofs.another()?;
+        self.functions = table.functions.another()?;
+        self.objects = table.objects.another()?;
+        self.calls = table.calls.another()?;
+        self.sources = table.sources.another()?;
+        Ok(())
+    }
+
+    /// Another table with the same entries in front, and none of its own yet. No entry is copied.
+    ///
+    /// # Errors
+    ///
+    /// The table wasn't shared, or has entries of its own, or too many tables have its front.
+    pub fn another(&self, alloc: Global) -> Result<NodeTable, AllocError>
+        ensures { IfOk result (λ t. t ≡ self.now) }
+    {
+        let mut table = NodeTable::new(alloc);
+        table.become_another(self)?;
+        Ok(table)
     }
 }

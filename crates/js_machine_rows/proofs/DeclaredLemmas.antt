@@ -1,5 +1,5 @@
 -- Lemmas on functions that a list of parts declares.
-use Rattle.std.proofs.Common.{◌≡◌, ℕ, suc, ◌+◌, ◌<◌, Bool, true, false, List, [], ◌∷◌, length, drop, get_or, Option, Some, None, refl, ap, ◌∙◌, if◌then◌else◌}
+use Rattle.std.proofs.Common.{◌≡◌, ℕ, zero, suc, ◌+◌, ◌-◌, ◌<◌, ◌≤◌, Bool, true, false, List, [], ◌∷◌, length, drop, get_or, Option, Some, None, refl, sym, ap, subst, ◌∙◌, arith, if◌then◌else◌}
 use Rattle.std.specs.Prelude.{Result, slice_get, IsErrAnd}
 use Rattle.js_heap.specs.declared.value.Addr.{Addr}
 use Rattle.js_heap.specs.World.{World}
@@ -28,12 +28,14 @@ use Rattle.js_heap.specs.declared.change.Change.TheVariants as changes
 use Rattle.js_heap_memory.specs.Names.{name_of}
 use Rattle.js_semantics.specs.State.{make, write}
 use Rattle.js_machine_nodes.specs.Ops.{is_literal}
-use Rattle.js_machine_nodes.specs.Trees.{tree, terms}
+use Rattle.js_machine_nodes.specs.Trees.{kids_between, tree, terms}
 use Rattle.js_machine_actions.specs.declared.action_end.ActionEnd.{ActionEnd}
 use Rattle.js_machine_actions.specs.Flow.{performed, Stops, Passes}
 use Rattle.js_machine_actions.proofs.FlowLemmas.{passes-err}
 use Rattle.js_machine_rows.specs.Declaring.{is_function_op, declared_if}
-use Rattle.std.proofs.lemmas.List.{drop_more}
+use Rattle.std.proofs.lemmas.List.{drop_all, drop_more, length-take}
+use Rattle.std.proofs.Math.Nat.{min-le_left}
+use Rattle.std.proofs.lemmas.Option.{get_or_from_slice_get, slice_get_within}
 
 -- ---- parts that are no functions
 
@@ -250,7 +252,7 @@ functions_at ts t a ks i d v w s k l h =
     ∙ ap (λ x. performed x (with_world s w))
     (with_first a (tree ts t (get_or ks i d)) (terms (tree ts t) (drop (i + 1) ks)) k)
 
-pub functions-step : (ts : List (List ℕ)) (t : NodeTable) (a : Addr) (ks : List ℕ) (i d : ℕ) (v w u : World)
+functions-step : (ts : List (List ℕ)) (t : NodeTable) (a : Addr) (ks : List ℕ) (i d : ℕ) (v w u : World)
     → i < length ks
     → FunctionsLeft ts t a ks v i w →
     ((s : State) (k : Action)
@@ -260,7 +262,7 @@ pub functions-step : (ts : List (List ℕ)) (t : NodeTable) (a : Addr) (ks : Lis
 functions-step ts t a ks i d v w u l h g =
     λ s k. functions_at ts t a ks i d v w s k l h ∙ g s (with_functions a (terms (tree ts t) (drop (i + 1) ks)) k)
 
-pub functions-stop : (ts : List (List ℕ)) (t : NodeTable) (a : Addr) (ks : List ℕ) (i d : ℕ) (v w u : World)
+functions-stop : (ts : List (List ℕ)) (t : NodeTable) (a : Addr) (ks : List ℕ) (i d : ℕ) (v w u : World)
     (r : Result (Unit {0}) ActionEnd) (e : ActionEnd)
     → i < length ks
     → FunctionsLeft ts t a ks v i w →
@@ -272,3 +274,56 @@ functions-stop ts t a ks i d v w u r e l h g q =
     passes-err (with_functions a (terms (tree ts t) ks)) v u r e q
     (λ s k said. functions_at ts t a ks i d v w s k l h
     ∙ g s (with_functions a (terms (tree ts t) (drop (i + 1) ks)) k) said)
+
+-- ---- the parts between two places, one after another
+
+-- behind the part at an index
+pub functions-next : (ts : List (List ℕ)) (t : NodeTable) (a : Addr) (ks : List ℕ) (i kid : ℕ) (v w u : World)
+    → slice_get ks i ≡ Some kid
+    → FunctionsLeft ts t a ks v i w →
+    ((s : State) (k : Action)
+    → performed (with_functions a (one (tree ts t kid)) k) (with_world s w) ≡ performed k (with_world s u))
+    → FunctionsLeft ts t a ks v (i + 1) u
+functions-next ts t a ks i kid v w u at h g =
+    let P : ℕ → Type 0 = λ n. (s : State) (k : Action)
+    → performed (with_functions a (one (tree ts t n)) k) (with_world s w) ≡ performed k (with_world s u) in
+    functions-step ts t a ks i kid v w u (slice_get_within ks i kid at) h
+    (subst P (sym (get_or_from_slice_get ks i kid kid at)) g)
+
+-- where it ends there
+pub functions-end : (ts : List (List ℕ)) (t : NodeTable) (a : Addr) (ks : List ℕ) (i kid : ℕ) (v w u : World)
+    (r : Result (Unit {0}) ActionEnd) (e : ActionEnd)
+    → slice_get ks i ≡ Some kid
+    → FunctionsLeft ts t a ks v i w →
+    ((s : State) (k : Action) → Stops (with_functions a (one (tree ts t kid)) k) (with_world s w) e (with_world s u))
+    → IsErrAnd r (λ e'. e' ≡ e)
+    → Passes (with_functions a (terms (tree ts t) ks)) v r u
+functions-end ts t a ks i kid v w u r e at h g q =
+    let P : ℕ → Type 0 = λ n. (s : State) (k : Action)
+    → Stops (with_functions a (one (tree ts t n)) k) (with_world s w) e (with_world s u) in
+    functions-stop ts t a ks i kid v w u r e (slice_get_within ks i kid at) h
+    (subst P (sym (get_or_from_slice_get ks i kid kid at)) g) q
+
+-- where none is left
+pub functions-done : (ts : List (List ℕ)) (t : NodeTable) (a : Addr) (ks : List ℕ) (i : ℕ) (v w : World)
+    → length ks ≤ i
+    → FunctionsLeft ts t a ks v i w
+    → (s : State) (k : Action)
+    → performed (with_functions a (terms (tree ts t) ks) k) (with_world s v) ≡ performed k (with_world s w)
+functions-done ts t a ks i v w l h =
+    λ s k. h s k ∙ ap (λ xs. performed (with_functions a (terms (tree ts t) xs) k) (with_world s w)) (drop_all i ks l)
+
+-- there are no more than the places between
+pub parts-within : (t : NodeTable) (from to : ℕ) → length (kids_between t from to) ≤ to - from
+parts-within t from to =
+    omega (
+      arith,
+      length-take (to - from) (drop from t.kids.items),
+      min-le_left (to - from) (length (drop from t.kids.items)),
+    )
+
+-- none is at an index behind them
+pub none-behind : (ks : List ℕ) (i : ℕ) → slice_get ks i ≡ None → length ks ≤ i
+none-behind [] i h = omega arith
+none-behind (k ∷ ks) zero h = absurd cc
+none-behind (k ∷ ks) (suc i) h = omega (arith, none-behind ks i h)

@@ -85,7 +85,7 @@ pub fn function_at(table: &NodeTable, source: Source, node: u32) -> Option<CodeP
     ensures { (ts : List (List ℕ)) → code_at ts table.now result ≡ function_at (program_of ts table.now) source node }
 {
     for i in 0..table.sources.len() {
-        let entry = &table.sources[i];
+        let entry = table.sources.at(i);
         if same_source(entry.source, source) {
             return indexed(table, entry, node);
         }

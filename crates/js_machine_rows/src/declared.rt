@@ -10,7 +10,7 @@ ghost use Rattle.js_machine_actions.specs.Flow.{Passes};
 ghost use Rattle.js_machine_rows.specs.Declaring.{is_function_op, declared, declared_if};
 
 use crate::entries::{function_entry, parameter_count};
-use crate::parts::parts_between;
+use crate::parts::part_at;
 use js_heap::value::Addr;
 use js_heap_memory::names::NameTable;
 use js_heap_memory::world::World;
@@ -88,9 +88,11 @@ pub fn with_functions<W: World>(
 ) -> Result<(), ActionEnd>
     ensures { Passes (with_functions scope (trees code.now.names.now code.now.table.now from to)) (W.world code.now.names.now world.old) result (W.world code.now.names.now world.new) }
 {
-    let parts = parts_between(code.table, from, to);
-    for part in parts {
-        with_function(code, world, scope, *part)?;
+    for index in 0..to.saturating_sub(from) {
+        match part_at(code.table, from, to, index) {
+            Some(part) => with_function(code, world, scope, part)?,
+            None => return Ok(()),
+        }
     }
     Ok(())
 }

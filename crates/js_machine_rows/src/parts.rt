@@ -23,18 +23,3 @@ pub fn part_at(table: &NodeTable, from: u32, to: u32, index: u32) -> Option<u32>
         None
     }
 }
-
-/// The parts from a place of the table's list up to another.
-pub fn parts_between(table: &NodeTable, from: u32, to: u32) -> &[u32]
-    ensures { result.now ≡ kids_between table.now from to }
-{
-    let from = from as usize;
-    let to = to as usize;
-    if from < to && to <= table.kids.len() {
-        &table.kids[from..to]
-    } else if from < to && from < table.kids.len() {
-        &table.kids[from..]
-    } else {
-        &[]
-    }
-}

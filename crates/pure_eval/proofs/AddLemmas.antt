@@ -1,12 +1,12 @@
 -- One source more.
 use Rattle.std.proofs.Common.{◌≡◌, ◌⊎◌, inl, inr, ℕ, zero, suc, List, [], ◌∷◌, ◌++◌, length, Option, None, Some, refl, sym, ap, ◌∙◌, subst, arith, append-nil}
 use Rattle.std.specs.Prelude.{slice_get}
-use Rattle.std.specs.Global.{Vec}
 use Rattle.js_heap.specs.declared.value.Addr.{Addr}
 use Rattle.js_semantics.specs.declared.form.Source.TheVariants.{Kept as kept_source}
 use Rattle.js_semantics.specs.Terms.{Term}
 use Rattle.js_semantics.specs.Functions.{SourceTree, function_in}
 use Rattle.js_heap_memory.specs.Names.{GoesOn}
+use Rattle.js_machine_nodes.specs.Lists.{Items}
 use Rattle.js_machine_nodes.specs.declared.node.SourceEntry.{SourceEntry}
 use Rattle.js_machine_nodes.specs.declared.table.NodeTable.{NodeTable}
 use Rattle.js_machine_nodes.specs.Codes.{indexed_code}
@@ -26,7 +26,7 @@ use Rattle.js_machine_compiler.proofs.ScriptLemmas.{sources_push, tree_of}
 
 -- ---- other sources
 
-other_extends : (t : NodeTable) (es : Vec SourceEntry) → Extends t (with_sources t es)
+other_extends : (t : NodeTable) (es : Items SourceEntry) → Extends t (with_sources t es)
 other_extends t es = record {
   nodes = begins_same t.nodes.items;
   kids = begins_same t.kids.items;
@@ -63,7 +63,7 @@ each_source P es fs e s h k i d g = by (last_or es e d i (ap (λ xs. slice_get x
     by (inr f) = subst P f k
 
 -- the table with one more source
-whole-pushed : (w : NodeTable) (es : Vec SourceEntry) (entry : SourceEntry)
+whole-pushed : (w : NodeTable) (es : Items SourceEntry) (entry : SourceEntry)
     → IsWhole w
     → IsWithin w entry
     → Finds w entry
@@ -104,7 +104,7 @@ whole-grown t w h k c p =
     let x : Extends t w = k.entries in
     let at : (i : ℕ) (e : SourceEntry)
     → slice_get w.sources.items i ≡ Some e
-    → slice_get t.sources.items i ≡ Some e = λ i e g. ap (λ (v : Vec SourceEntry). slice_get v.items i) (sym k.sources)
+    → slice_get t.sources.items i ≡ Some e = λ i e g. ap (λ (v : Items SourceEntry). slice_get v.items i) (sym k.sources)
     ∙ g in
     record {
       table = k.table h.table;
@@ -125,10 +125,10 @@ grown-back t w h k whole = record {
   table =
       record {
         entries = k.entries;
-        sources = ap (λ (v : Vec SourceEntry). v.items) k.sources ∙ sym (append-nil t.sources.items);
+        sources = ap (λ (v : Items SourceEntry). v.items) k.sources ∙ sym (append-nil t.sources.items);
       };
   program =
-      λ ts. ap (λ (v : Vec SourceEntry). source_trees ts w v.items) k.sources
+      λ ts. ap (λ (v : Items SourceEntry). source_trees ts w v.items) k.sources
       ∙ sources-stay ts t w t.sources.items h.table h.closed k.entries h.sources;
 }
 
@@ -194,7 +194,7 @@ code-new names more t u at x o entry e a =
     subst P (sym e) there
 
 -- the source of code that was added, behind the others
-pub source-pushed : (names more : List (List ℕ)) (t w : NodeTable) (es : Vec SourceEntry) (at : Addr) (x : Term)
+pub source-pushed : (names more : List (List ℕ)) (t w : NodeTable) (es : Items SourceEntry) (at : Addr) (x : Term)
     (entry : SourceEntry)
     → IsCodeAdded names t at x more w entry
     → es.items ≡ w.sources.items ++ entry ∷ []

@@ -1,7 +1,6 @@
 -- The steps of a call: those of its callee, and then its own.
 use Rattle.std.proofs.Common.{◌≡◌, ℕ, zero, suc, ◌+◌, ◌-◌, ◌<◌, ◌≤◌, Bool, true, false, if◌then◌else◌, List, [], ◌∷◌, ◌++◌, length, drop, get_or, None, Some, Err, Result, refl, sym, ap, subst, ◌∙◌, arith, append-nil, append_assoc}
 use Rattle.std.specs.Prelude.{slice_get}
-use Rattle.std.specs.Global.{Vec}
 use Rattle.std.proofs.lemmas.List.{drop_all}
 use Rattle.js_heap.specs.declared.value.Addr.{Addr}
 use Rattle.js_heap.specs.declared.value.Value.{Value}
@@ -24,6 +23,7 @@ use Rattle.js_machine_actions.specs.Flow.{performed}
 use Rattle.js_heap_memory.specs.declared.world.Refused.{Refused}
 use Rattle.js_heap_memory.specs.declared.world.Refused.TheVariants.{Effect, Full, Memory}
 use Rattle.js_heap_memory.specs.Calls.{Tries}
+use Rattle.js_machine_nodes.specs.Lists.{Items}
 use Rattle.js_machine_nodes.specs.declared.node.CallEntry.{CallEntry}
 use Rattle.js_machine_nodes.specs.declared.op.Op.TheVariants as ops
 use Rattle.js_machine_nodes.specs.declared.table.NodeTable.{NodeTable}
@@ -58,10 +58,10 @@ use Rattle.cdp_text.proofs.ListLemmas.{from-here, last_there}
 
 -- ---- the entry of a call
 
-abbrev with_calls : NodeTable → Vec CallEntry → NodeTable
+abbrev with_calls : NodeTable → Items CallEntry → NodeTable
 with_calls t cs = record t { calls = cs }
 
-call_extends : (t : NodeTable) (cs : Vec CallEntry) (e : CallEntry)
+call_extends : (t : NodeTable) (cs : Items CallEntry) (e : CallEntry)
     → cs.items ≡ t.calls.items ++ e ∷ []
     → Extends t (with_calls t cs)
 call_extends t cs e is = record {
@@ -77,7 +77,7 @@ call_extends t cs e is = record {
   calls = record { rest = e ∷ []; is = is };
 }
 
-call_whole : (t : NodeTable) (cs : Vec CallEntry) (e : CallEntry)
+call_whole : (t : NodeTable) (cs : Items CallEntry) (e : CallEntry)
     → cs.items ≡ t.calls.items ++ e ∷ []
     → IsWhole t
     → IsWhole (with_calls t cs)
@@ -97,7 +97,7 @@ call_whole t cs e is h =
       sources = λ i s g. within-more t u s x (h.sources i s g);
     }
 
-pub call-added : (t : NodeTable) (cs : Vec CallEntry) (e : CallEntry) (n : ℕ)
+pub call-added : (t : NodeTable) (cs : Items CallEntry) (e : CallEntry) (n : ℕ)
     → cs.items ≡ t.calls.items ++ e ∷ []
     → n ≡ length t.calls.items
     → call_form (Some e) ≡ call beginning 0

@@ -37,7 +37,7 @@ pub fn are_closed(table: &NodeTable, from: usize) -> bool
     ensures { result ≡ true → AreClosed table.now from }
 {
     for i in from..table.nodes.len() {
-        let node = table.nodes[i];
+        let node = table.nodes.at(i);
         if !names_entry(table, node.op, node.info) {
             return false;
         }
@@ -50,7 +50,7 @@ pub fn are_placed(table: &NodeTable, from: usize) -> bool
     ensures { result ≡ true → ArePlaced table.now from }
 {
     for i in from..table.functions.len() {
-        if table.functions[i].at as usize >= table.nodes.len() {
+        if table.functions.at(i).at as usize >= table.nodes.len() {
             return false;
         }
     }
@@ -84,7 +84,7 @@ pub fn are_within(table: &NodeTable) -> bool
     ensures { result ≡ true → AreWithin table.now }
 {
     for i in 0..table.sources.len() {
-        if !is_within(table, &table.sources[i]) {
+        if !is_within(table, table.sources.at(i)) {
             return false;
         }
     }

@@ -208,7 +208,7 @@ impl Workspace {
         ensures names { self.new.names ≡ self.old.names }
         ensures held { self.new.held ≡ [] }
     {
-        let alloc = *self.evaluator.table.sources.allocator();
+        let alloc = self.evaluator.table.sources.allocator();
         let start = self.start;
         let scratch = Scratch::new(alloc);
         self.evaluator.cut(start);

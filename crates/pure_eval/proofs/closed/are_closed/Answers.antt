@@ -8,7 +8,7 @@ pub loop-i-preserved : goal.loop-i-preserved
 loop-i-preserved c =
     let P : Node → Type 0 = λ node. names_entry c.args.table.now node.op node.info ≡ true in
     up-one (HoldsAt P c.args.table.now.nodes.items) c.args.from c.loop-i.i c.loop-i.invariant
-    (holds-here P c.args.table.now.nodes.items c.loop-i.i c.index-node.result.now (grind arith) c.index-node.ensures
+    (holds-here P c.args.table.now.nodes.items c.loop-i.i c.at-node.result.now (grind arith) c.at-node.ensures
     (sym c.names_entry.ensures ∙ c.if-not-names_entry.false))
 
 pub returns : goal.returns
