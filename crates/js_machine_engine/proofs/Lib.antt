@@ -19,3 +19,4 @@ pub mod StepLemmas
 pub mod RunLemmas
 pub mod PrintLemmas
 pub mod TextLemmas
+pub mod FirstKidLemmas
