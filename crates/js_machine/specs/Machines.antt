@@ -12,6 +12,8 @@ use Rattle.js_machine_nodes.specs.declared.table.NodeTable.{NodeTable}
 use Rattle.js_machine_nodes.specs.Codes.{HasFunctions}
 use Rattle.js_machine_nodes.specs.Trees as trees
 use Rattle.js_machine_nodes.specs.Trees.{IsTable}
+use Rattle.js_machine_compiler.specs.Grown.{HasPlaces}
+use Rattle.js_machine_compiler.specs.Scripts.{IsOfScripts}
 use Rattle.js_machine_engine.specs.declared.run.Why.{Why}
 use Rattle.js_machine_engine.specs.declared.run.Why.TheVariants as whys
 use Rattle.js_machine_engine.specs.declared.stepped.Finish.{Finish}
@@ -124,10 +126,12 @@ abbrev pub StandsUntilEnd : NodeTable → List Wide → Point → Option End →
 StandsUntilEnd t ws p None = StandsIn t script_scope ws p
 StandsUntilEnd t ws p (Some e) = Unit {0}
 
--- what holds of each machine: its code is sound, and until its end it stands in its scopes
-pub record IsSound (t : NodeTable) (ws : List Wide) (p : Point) (e : Option End) : Type 0 where
+-- what holds of each machine: its code is that of scripts and sound, and until its end it stands in its scopes
+pub record IsSound (t : NodeTable) (ts : List (List ℕ)) (ws : List Wide) (p : Point) (e : Option End) : Type 0 where
   pub table : IsTable t
+  pub places : HasPlaces t
   pub functions : HasFunctions t
+  pub scripts : IsOfScripts ts t
   pub stands : StandsUntilEnd t ws p e
 
 -- the code stays

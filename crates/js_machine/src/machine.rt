@@ -8,7 +8,10 @@ ghost use Rattle.js_heap.specs.World.{World as AnyWorld};
 ghost use Rattle.js_semantics.specs.Next.{next};
 ghost use Rattle.js_semantics.specs.Run.{over, step_in};
 ghost use Rattle.js_semantics.specs.Sources.{terms_of_scripts};
+ghost use Rattle.js_machine_nodes.specs.Codes.{HasFunctions};
 ghost use Rattle.js_machine_nodes.specs.Trees.{IsTable};
+ghost use Rattle.js_machine_compiler.specs.Grown.{HasPlaces};
+ghost use Rattle.js_machine_compiler.specs.Scripts.{IsOfScripts};
 ghost use Rattle.js_machine_terms.specs.Views.{terms_view};
 ghost use Rattle.js_machine_engine.specs.Running.{IsRunning, RunsFor, CountsAs, IsAsked, HasPassed, passed_steps};
 ghost use Rattle.js_machine_engine.specs.Stepping.{StandsIn, Tells, finish_of};
@@ -62,7 +65,7 @@ impl Model for Machine {
 
     ghost view = { λ m. record { table = m.table; names = m.names; context = m.context; tasks = m.stack; point = m.point; ended = m.end } };
 
-    ghost invariant = { λ m. IsSound m.table m.stack m.point m.end };
+    ghost invariant = { λ m. IsSound m.table m.names m.stack m.point m.end };
 }
 
 /// A machine at the start of its scripts, with the cells before the first step.
@@ -264,10 +267,13 @@ impl Machine {
         &self.names
     }
 
-    /// Its code, which is in order.
+    /// Its code, which is in order, and that of scripts however the names go on. Other tables may have it in front.
     pub fn table(&self) -> &NodeTable
         ensures table { result.now ≡ self.now.table }
         ensures in_order { IsTable result.now }
+        ensures places { HasPlaces result.now }
+        ensures functions { HasFunctions result.now }
+        ensures scripts { IsOfScripts self.now.names result.now }
     {
         &self.table
     }

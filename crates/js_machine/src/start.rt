@@ -20,7 +20,7 @@ pub struct PreparedScripts {
     pub heap: BaseHeap,
 }
 
-/// Makes the code of scripts and the cells before the first step.
+/// Makes the code of scripts, which is shared, and the cells before the first step.
 ///
 /// # Errors
 ///
@@ -32,9 +32,10 @@ pub fn prepare(alloc: Global, scripts: &Terms) -> Result<PreparedScripts, AllocE
     let placed = placed_scripts(alloc, scripts)?;
     let mut names = NameTable::new(alloc);
     add_built_in_names(alloc, &mut names)?;
-    let Some(code) = code_of_scripts(alloc, &mut names, &placed)? else {
+    let Some(mut code) = code_of_scripts(alloc, &mut names, &placed)? else {
         return Err(AllocError);
     };
+    code.table.share();
     let heap = BaseHeap::start(alloc, &names, literals.as_slice())?;
     Ok(PreparedScripts { names, code, heap })
 }

@@ -74,3 +74,8 @@ pub record IsCompiled (ts : List (List ℕ)) (xs : Terms) (t : NodeTable) (root 
 abbrev pub AreCompiled : List (List ℕ) → Terms → Option ScriptCode → Type 0
 AreCompiled ts xs None = are_plain xs ≡ false
 AreCompiled ts xs (Some c) = IsCompiled ts xs c.table c.root
+
+-- a table whose program is that of scripts, however the names go on
+pub record IsOfScripts (ts : List (List ℕ)) (t : NodeTable) : Type 0 where
+  pub terms : Terms
+  pub program : (us : List (List ℕ)) → GoesOn ts us → program_of us t ≡ program_from 1 terms
