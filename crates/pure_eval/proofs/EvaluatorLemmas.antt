@@ -1,5 +1,5 @@
 -- An evaluator's code, and what its evaluations answer.
-use Rattle.std.proofs.Common.{◌≡◌, ℕ, ◌+◌, ◌-◌, ◌<◌, ◌≤◌, Bool, true, false, List, [], ◌∷◌, ◌++◌, length, Option, Some, if◌then◌else◌, refl, sym, ap, subst, ◌∙◌, arith}
+use Rattle.std.proofs.Common.{◌≡◌, ℕ, ◌+◌, ◌-◌, ◌<◌, ◌≤◌, Bool, true, false, List, [], ◌∷◌, ◌++◌, length, if◌then◌else◌, refl, sym, ap, subst, ◌∙◌, arith}
 use Rattle.std.specs.Prelude.{nat_eq, nat_le}
 use Rattle.js_heap.specs.declared.value.Addr.{Addr}
 use Rattle.js_heap.specs.declared.value.Addr.TheVariants.{Base, Scratch}
@@ -34,8 +34,6 @@ use Rattle.js_heap_memory.proofs.HeapLemmas.{cells-length}
 use Rattle.js_machine_nodes.specs.declared.node.SourceEntry.{SourceEntry}
 use Rattle.js_machine_nodes.specs.declared.table.NodeTable.{NodeTable}
 use Rattle.js_machine_nodes.specs.Trees.{tree, program_of}
-use Rattle.js_machine_compiler.specs.declared.scripts.ScriptCode.{ScriptCode}
-use Rattle.js_machine_compiler.specs.Scripts.{IsCompiled, AreCompiled}
 use Rattle.pure_eval.specs.declared.cutting.TableMark.{TableMark}
 use Rattle.pure_eval.specs.Whole.{IsWhole}
 use Rattle.pure_eval.specs.Adding.{kept_tree_at, GoesOnWith, IsAdded}
@@ -379,17 +377,6 @@ runs-after ts us t u n m root x p q at mark next end f l s a k d e h i =
     (λ o. let b = i o in
     stands-same us f.names f.table f.table n f.next p e refl (b.0 ∙ l)
     (stands-back ts us t f.table n p s a.goes_on (b.1 t (a.entry ∷ []) s.whole d a.table)))
-
--- ---- the code of the scripts
-
-pub compiled : (ts : List (List ℕ)) (xs : Terms) (o : Option ScriptCode) (c : ScriptCode)
-    → AreCompiled ts xs o
-    → o ≡ Some c
-    → IsCompiled ts xs c.table c.root
-compiled ts xs o c h e =
-    let P : Option ScriptCode → Type 0 = λ q. AreCompiled ts xs q in
-    let k : AreCompiled ts xs (Some c) = subst P e h in
-    k
 
 -- ---- the terms of expressions
 

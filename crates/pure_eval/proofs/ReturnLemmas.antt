@@ -2,6 +2,7 @@
 use Rattle.std.proofs.Common.{◌≡◌, ℕ, ◌+◌, true, false, List, [], ◌∷◌, ◌++◌, length, refl, sym, ap, subst, ◌∙◌, append-nil, append_assoc}
 use Rattle.js_semantics.specs.Terms.{Term}
 use Rattle.js_semantics.specs.Functions.{Program, SourceTree}
+use Rattle.js_semantics.specs.Run.{program_from}
 use Rattle.js_heap_memory.specs.Heaps.{Heap}
 use Rattle.js_heap_memory.specs.Overlays.{next_of}
 use Rattle.js_heap_memory.specs.Names.{GoesOn}
@@ -15,11 +16,13 @@ use Rattle.pure_eval.specs.declared.evaluator.Added.{Added}
 use Rattle.pure_eval.specs.declared.evaluator.Evaluator.{Evaluator}
 use Rattle.pure_eval.specs.declared.evaluator.EvaluatorMark.{EvaluatorMark}
 use Rattle.pure_eval.specs.Whole.{IsWhole}
+use Rattle.pure_eval.specs.Calling.{IsCallAdded}
+use Rattle.pure_eval.specs.ScriptsCodes.{IsShared}
 use Rattle.pure_eval.specs.Adding.{GoesOnWith, kept_tree_at}
 use Rattle.pure_eval.specs.Cutting.{IsMarkOf, IsBack}
 use Rattle.pure_eval.specs.Evaluators.{HoldsProgram, Runs, is_kept}
 use Rattle.pure_eval.specs.Returning.{WentOn, WentOnAfter, IsMarked, IsAgain, CameFrom, CameAfter, HasAdded, IsCode, IsCodeOf, CodeAfter}
-use Rattle.pure_eval.proofs.EvaluatorLemmas.{same-program, stands-back, stands-same, stands-added, behind-is}
+use Rattle.pure_eval.proofs.EvaluatorLemmas.{same-program, stands-first, stands-back, stands-same, stands-added, behind-is}
 use Rattle.js_machine_compiler.proofs.NameLemmas.{goes_on_same}
 use Rattle.js_heap_memory.proofs.StartLemmas.{goes-then}
 
@@ -185,6 +188,25 @@ code-of e q p r h =
       };
       program = here;
     }
+
+-- the code of scripts with the entry of a call behind it
+pub shared-code : (ts us : List (List ℕ)) (t u v : NodeTable) (n : ℕ)
+    → IsShared ts t
+    → us ≡ ts
+    → u ≡ t
+    → IsCallAdded u v n
+    → IsCodeOf (record { names = us; table = v; next = 0; call = n }) (program_of ts t)
+shared-code ts us t u v n s names same added =
+    let A : NodeTable → Type 0 = λ x. IsCallAdded x v n in
+    let w : IsCallAdded t v n = subst A same added in
+    let code : (ws : List (List ℕ)) → GoesOn ts ws → program_of ws v ≡ program_from 1 s.scripts.terms
+    = λ ws g. w.program s.whole ws ∙ s.scripts.program ws g in
+    let P : List (List ℕ) → Type 0 = λ ws. IsCodeOf (record { names = ws; table = v; next = 0; call = n })
+    (program_of ts t) in
+    subst P (sym names)
+    (code-of (record { names = ts; table = v; next = 0; call = n }) (program_from 1 s.scripts.terms) (program_of ts t)
+    (stands-first ts v s.scripts.terms (w.whole s.whole) code)
+    (λ ws g. code ws g ∙ sym (s.scripts.program ts (goes_on_same ts))))
 
 pub code-again : (e new : Evaluator) → IsCode e → IsAgain e new → IsCodeOf new (program_of e.names e.table)
 code-again e new c i =

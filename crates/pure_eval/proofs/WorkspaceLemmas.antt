@@ -1,5 +1,5 @@
 -- What a session's evaluations go on from.
-use Rattle.std.proofs.Common.{◌≡◌, ℕ, suc, ◌≤◌, List, [], ◌∷◌, ◌++◌, length, take, Option, None, Some, refl, sym, ap, subst, ◌∙◌}
+use Rattle.std.proofs.Common.{◌≡◌, ℕ, suc, ◌≤◌, List, [], ◌∷◌, ◌++◌, length, take, Option, None, Some, refl, sym, ap, ◌∙◌}
 use Rattle.std.proofs.Math.Seq.{take-length, take-append_seam}
 use Rattle.js_heap.specs.declared.value.Addr.{Addr}
 use Rattle.js_heap.specs.declared.value.Addr.TheVariants.{Scratch}
@@ -8,7 +8,6 @@ use Rattle.js_heap.specs.World.{World}
 use Rattle.js_heap.specs.ScratchSpaces.{ScratchSpace, copied_world}
 use Rattle.js_semantics.specs.Functions.{Program}
 use Rattle.js_semantics.specs.Evaluation.{next_kept}
-use Rattle.js_heap_memory.specs.Names.{GoesOn}
 use Rattle.js_heap_memory.specs.Heaps.{Heap, heap_world}
 use Rattle.js_heap_memory.specs.Overlays.{OverlayMark, Over, over_world, space_of, space_after, space_at, first_space, next_of, mark_of}
 use Rattle.js_heap_memory.proofs.HeapLemmas.{cells-length}
@@ -249,14 +248,12 @@ forgotten-is e new n start m base h g o k count next held i cut names over was =
 names_first : (e : Evaluator) (m : EvaluatorMark) → IsMarked e m → marked_names e m ≡ e.names
 names_first e m k = ap (λ n. take n e.names) k.names ∙ take-length e.names
 
--- where it was just marked they go on from what all of them do
-pub goes-marked : (names : List (List ℕ)) (e : Evaluator) (m : EvaluatorMark)
+-- where it was just marked they are all that it has
+pub names-marked : (names : List (List ℕ)) (e : Evaluator) (m : EvaluatorMark)
     → IsMarked e m
-    → GoesOn names e.names
-    → GoesOn names (marked_names e m)
-goes-marked names e m k g =
-    let P : List (List ℕ) → Type 0 = λ ts. GoesOn names ts in
-    subst P (sym (names_first e m k)) g
+    → e.names ≡ names
+    → marked_names e m ≡ names
+names-marked names e m k h = names_first e m k ∙ h
 
 names_since : (first e : Evaluator) (m : EvaluatorMark)
     → IsMarked first m

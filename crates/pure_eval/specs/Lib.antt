@@ -11,6 +11,7 @@ pub mod Arguments
 pub mod Calling
 pub mod Returning
 pub mod Holding
+pub mod ScriptsCodes
 pub mod TermCodes
 pub mod Working
 pub mod Workspaces

@@ -5,7 +5,6 @@ ghost use Rattle.js_tree.specs.declared.tree.Expr.{Expr};
 ghost use Rattle.js_semantics.specs.Evaluation.{answered, next_kept, with_source};
 ghost use Rattle.js_semantics.specs.Functions.{Program};
 ghost use Rattle.js_semantics.specs.Literals.{source_literals};
-ghost use Rattle.js_semantics.specs.Run.{program_from};
 ghost use Rattle.js_semantics.specs.Sources.{expression_source};
 ghost use Rattle.js_semantics.specs.Terms.{settle};
 ghost use Rattle.js_heap_memory.specs.Heaps.{heap_world};
@@ -15,7 +14,7 @@ ghost use Rattle.js_machine_nodes.specs.declared.node.SourceEntry.{SourceEntry a
 ghost use Rattle.js_machine_nodes.specs.declared.table.NodeTable.{NodeTable as AnyTable};
 ghost use Rattle.js_machine_nodes.specs.Codes.{HasFunctions};
 ghost use Rattle.js_machine_nodes.specs.Trees.{tree, program_of, IsTable};
-ghost use Rattle.js_machine_terms.specs.Views.{term_view, terms_view};
+ghost use Rattle.js_machine_terms.specs.Views.{term_view};
 ghost use Rattle.pure_eval.specs.Adding.{GoesOnWith, kept_tree_at};
 ghost use Rattle.pure_eval.specs.Calling.{worked, work_of, HasCall};
 ghost use Rattle.pure_eval.specs.Cutting.{IsMarkOf, IsBack};
@@ -25,11 +24,10 @@ ghost use Rattle.pure_eval.specs.Holding.{IsHeldAt, code_term};
 ghost use Rattle.pure_eval.specs.Leaving.{Leaves};
 ghost use Rattle.pure_eval.specs.Orders.{AreSameLiterals, ready_in_order};
 ghost use Rattle.pure_eval.specs.Preparing.{IsReady};
-ghost use Rattle.pure_eval.specs.Returning.{WentOn, WentOnAfter, IsMarked, IsAgain, CameFrom, CameAfter, HasAdded, IsCode, IsCodeOf, CodeAfter};
+ghost use Rattle.pure_eval.specs.Returning.{WentOn, WentOnAfter, IsMarked, IsAgain, CameFrom, CameAfter, HasAdded, IsCode, CodeAfter};
 
 use crate::adding::add_source;
-use crate::calling::{add_call, is_call};
-use crate::closed::is_whole;
+use crate::calling::is_call;
 use crate::cutting::{TableMark, cut, mark};
 use crate::evaluated::Evaluated;
 use crate::orders::evaluate_in_order;
@@ -42,11 +40,10 @@ use js_heap_memory::heap::BaseHeap;
 use js_heap_memory::names::NameTable;
 use js_heap_memory::overlay::Scratch;
 use js_heap_memory::world::World;
-use js_machine_compiler::scripts::{ScriptCode, code_of_scripts};
 use js_machine_engine::rows::Rows;
 use js_machine_nodes::node::SourceEntry;
 use js_machine_nodes::table::NodeTable;
-use js_machine_terms::term::{Term, Terms};
+use js_machine_terms::term::Term;
 use std::alloc::{AllocError, Global};
 
 /// The code of a program, and of the sources that a session's evaluations keep, with its names.
@@ -157,36 +154,6 @@ fn evaluate_known<T: Rows>(
 }
 
 impl Evaluator {
-    /// The evaluator of a program that has no source of an evaluation yet: the code of scripts with the addresses of their
-    /// literals, whose names go on behind these.
-    ///
-    /// # Errors
-    ///
-    /// There is no memory for it, or something in the scripts comes up in a run alone.
-    pub fn start(alloc: Global, names: &NameTable, scripts: &Terms) -> Result<Evaluator, AllocError>
-        ensures program { IfOk result (λ e. Runs e (program_from 1 (terms_view scripts.now))) }
-        ensures names { IfOk result (λ e. GoesOn names.now e.names) }
-        ensures code { IfOk result (λ e. IsCodeOf e (program_from 1 (terms_view scripts.now))) }
-    {
-        let mut known = names.copy()?;
-        let Some(code) = code_of_scripts(alloc, &mut known, scripts)? else {
-            return Err(AllocError);
-        };
-        let ScriptCode { table, root } = code;
-        let _ = root;
-        if !is_whole(&table) {
-            return Err(AllocError);
-        }
-        let mut table = table;
-        let call = add_call(&mut table)?;
-        Ok(Evaluator {
-            names: known,
-            table,
-            next: 0,
-            call,
-        })
-    }
-
     /// Where the code ends now, and how many names there are. It takes no memory.
     pub fn mark(&self) -> EvaluatorMark
         ensures marked { IsMarked self.now result }

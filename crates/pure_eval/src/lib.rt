@@ -4,6 +4,8 @@
 //!
 //! - *evaluator*: the code of a program and of the sources that evaluations keep, with their names; `Runs`,
 //!   `HoldsProgram` say of which
+//! - *scripts' code*: the code of a program's scripts, from which the evaluations of all its sessions go on without a
+//!   copy
 //! - *workspace*: what the evaluations of a session go on from; it is *opened* over the cells of a program for one of
 //!   them, if the program's names are the first of those with which it *began*
 //! - *kept*: a source that stays, with the cells of its evaluation; *cut* and *forgotten* is what doesn't
@@ -26,6 +28,7 @@ mod literals;
 mod orders;
 mod prepared;
 mod reducing;
+mod scripts_code;
 mod session;
 mod work;
 mod workspace;
@@ -33,4 +36,5 @@ mod workspace;
 pub use arguments::Argument;
 pub use evaluated::{Evaluated, is_memory};
 pub use prepared::PreparedSource;
+pub use scripts_code::ScriptsCode;
 pub use workspace::{OpenWorkspace, OverlaidCells, Workspace};

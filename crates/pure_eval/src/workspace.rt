@@ -5,14 +5,11 @@ ghost use Rattle.js_heap.specs.declared.value.Addr.TheVariants.{Scratch as scrat
 ghost use Rattle.js_heap.specs.ScratchSpaces.{copied_world};
 ghost use Rattle.js_semantics.specs.Evaluation.{evaluate_expression, evaluate_function, next_kept};
 ghost use Rattle.js_semantics.specs.Literals.{source_literals};
-ghost use Rattle.js_semantics.specs.Run.{program_from};
 ghost use Rattle.js_semantics.specs.Sources.{expression_source};
-ghost use Rattle.js_machine_terms.specs.Views.{terms_view};
 ghost use Rattle.js_tree.specs.declared.script.Expression.{Expression};
 ghost use Rattle.js_tree.specs.declared.script.FunctionCode.{FunctionCode};
 ghost use Rattle.js_tree.specs.declared.tree.Expr.{Expr};
 ghost use Rattle.js_heap_memory.specs.Heaps.{heap_world};
-ghost use Rattle.js_heap_memory.specs.Names.{GoesOn};
 ghost use Rattle.js_heap_memory.specs.Overlays.{over_world};
 ghost use Rattle.pure_eval.specs.Answering.{is_memory};
 ghost use Rattle.pure_eval.specs.Arguments.{arguments_of};
@@ -30,6 +27,7 @@ use crate::holding::{
     CodeChoice, HeldCodes, MOST_HELD, chosen_entry, count_held, hold_code, place_held,
 };
 use crate::prepared::PreparedSource;
+use crate::scripts_code::ScriptsCode;
 use crate::session::Outcome;
 use crate::work::Work;
 use js_heap::value::{Addr, Value};
@@ -39,7 +37,6 @@ use js_heap_memory::overlay::{Overlay, OverlayMark, Scratch};
 use js_heap_memory::world::World;
 use js_machine_engine::rows::Rows;
 use js_machine_nodes::table::NodeTable;
-use js_machine_terms::term::Terms;
 use std::alloc::{AllocError, Global};
 use std::marker::Model;
 
@@ -179,18 +176,18 @@ fn given_up<'b>(alloc: Global, base: &'b BaseHeap) -> OpenWorkspace<'b> {
 }
 
 impl Workspace {
-    /// What the evaluations of a session begin with: the code of scripts with the addresses of their literals. The names
-    /// with which it begins are these, and behind them any more that the scripts have.
+    /// What the evaluations of a session begin with: the code of a program's scripts, with the names with which it
+    /// begins.
     ///
     /// # Errors
     ///
-    /// There is no memory for it, or something in the scripts comes up in a run alone.
-    pub fn start(alloc: Global, names: &NameTable, scripts: &Terms) -> Result<Workspace, AllocError>
-        ensures workspace { IfOk result (λ w. w.workspace ≡ begun (program_from 1 (terms_view scripts.now))) }
-        ensures names { IfOk result (λ w. GoesOn names.now w.names) }
+    /// There is no memory for it.
+    pub fn start(alloc: Global, code: &ScriptsCode) -> Result<Workspace, AllocError>
+        ensures workspace { IfOk result (λ w. w.workspace ≡ begun code.now.program) }
+        ensures names { IfOk result (λ w. w.names ≡ code.now.names) }
         ensures held { IfOk result (λ w. w.held ≡ []) }
     {
-        let evaluator = Evaluator::start(alloc, names, scripts)?;
+        let evaluator = code.evaluator()?;
         let start = evaluator.mark();
         let scratch = Scratch::new(alloc);
         Ok(Workspace {

@@ -1,6 +1,4 @@
-use Rattle.js_semantics.specs.Run.{program_from}
-use Rattle.js_machine_terms.specs.Views.{terms_view}
-use Rattle.pure_eval.proofs.WorkspaceLemmas.{begun-is, goes-marked, working-alone, working-first}
+use Rattle.pure_eval.proofs.WorkspaceLemmas.{begun-is, names-marked, working-alone, working-first}
 use Rattle.pure_eval.proofs.workspace.Workspace.start.Goals as goal
 
 pub invariant_of-result : goal.invariant_of-result
@@ -12,11 +10,11 @@ invariant_of-result c =
 pub returns-clause-workspace : goal.returns-clause-workspace
 returns-clause-workspace c =
     begun-is c.in_ok-evaluator.evaluator c.mark-start.result.table.sources c.new-scratch.result
-    (program_from 1 (terms_view c.args.scripts.now))
+    c.args.code.now.program
     c.in_ok-evaluator.ensures.code c.mark-start.ensures.marked.table.sources
     (c.new-scratch.ensures c.in_ok-evaluator.evaluator.names)
 
 pub returns-clause-names : goal.returns-clause-names
 returns-clause-names c =
-    goes-marked c.args.names.now c.in_ok-evaluator.evaluator c.mark-start.result c.mark-start.ensures.marked
+    names-marked c.args.code.now.names c.in_ok-evaluator.evaluator c.mark-start.result c.mark-start.ensures.marked
     c.in_ok-evaluator.ensures.names
