@@ -55,20 +55,22 @@ works-at s false seats alone held = refl
 
 -- ---- what holds of every host, with other seats
 
-pub sound-more : (scripts : List Script) (starts : List (List ℕ)) (found : List (List Spot)) (machine : Machine)
+pub sound-more : (scripts shared : List Script) (starts : List (List ℕ)) (found : List (List Spot)) (machine : Machine)
     (b : Bool)
     → (seats news : List (Seat Session)) (count more : ℕ) (index places : List Holding) (held wider : Fallback Session)
     (losses : List SessionLost)
-    → IsSound scripts starts found machine b seats count index held losses → b ≡ false → AllFit (protocol scripts) news
+    → IsSound scripts shared starts found machine b seats count index held losses → b ≡ false
+    → AllFit (protocol scripts) news
     → IsIndexOf news places
     → HasRoom more wider → fallback_held wider ≡ fallback_held held
-    → IsSound scripts starts found machine b news more places wider losses
-sound-more scripts starts found machine b seats news count more index places held wider losses sound works fit indexed
-    room same =
+    → IsSound scripts shared starts found machine b news more places wider losses
+sound-more scripts shared starts found machine b seats news count more index places held wider losses sound works fit
+    indexed room same =
     record {
       lines = sound.lines;
       spots = sound.spots;
       code = sound.code;
+      shared = sound.shared;
       handed = sound.handed;
       kept = sound.kept;
       quiet = sound.quiet;
@@ -79,16 +81,17 @@ sound-more scripts starts found machine b seats news count more index places hel
       fit = fit;
     }
 
-pub sound-seats : (scripts : List Script) (starts : List (List ℕ)) (found : List (List Spot)) (machine : Machine)
+pub sound-seats : (scripts shared : List Script) (starts : List (List ℕ)) (found : List (List Spot)) (machine : Machine)
     (b : Bool)
     → (seats news : List (Seat Session)) (count : ℕ) (index places : List Holding) (held : Fallback Session)
     (losses : List SessionLost)
-    → IsSound scripts starts found machine b seats count index held losses → b ≡ false → AllFit (protocol scripts) news
+    → IsSound scripts shared starts found machine b seats count index held losses → b ≡ false
+    → AllFit (protocol scripts) news
     → IsIndexOf news places
-    → IsSound scripts starts found machine b news count places held losses
-sound-seats scripts starts found machine b seats news count index places held losses sound works fit indexed =
-    sound-more scripts starts found machine b seats news count count index places held held losses sound works fit
-    indexed (sound.room works) refl
+    → IsSound scripts shared starts found machine b news count places held losses
+sound-seats scripts shared starts found machine b seats news count index places held losses sound works fit indexed =
+    sound-more scripts shared starts found machine b seats news count count index places held held losses sound works
+    fit indexed (sound.room works) refl
 
 pub nothing-fits : fits [] ≡ true
 unfolding fits

@@ -21,7 +21,7 @@ use Rattle.js_machine.proofs.machine.Machine.TheSendSync as machine
 use Rattle.breakpoints.proofs.place_index.PlaceIndex.TheSendSync as places
 use Rattle.breakpoints.proofs.script_spots.ScriptSpots.TheSendSync as spots
 use Rattle.cdp_json.proofs.room.ReadingRoom.TheSendSync as room
-use Rattle.cdp_session.proofs.SendLemmas.{script-sync, session-send}
+use Rattle.cdp_session.proofs.SendLemmas.{coded-send, script-sync, session-send}
 use Rattle.cdp_session.proofs.situation.Pause.TheSendSync as pause
 use Rattle.cdp_session.specs.contracts.session.Session as session
 use Rattle.cdp_host.specs.contracts.host.Host as host
@@ -43,34 +43,37 @@ host-parts ℓ =
       (
         search (script-sync, crosses, sendable) depth 30,
         (
-          search (lines.the_send, vectors.the_send, crosses, sendable) depth 30,
+          coded-send ℓ,
           (
-            spots.the_send,
+            search (lines.the_send, vectors.the_send, crosses, sendable) depth 30,
             (
-              machine.the_send,
+              spots.the_send,
               (
-                heap.the_send,
+                machine.the_send,
                 (
-                  search (phase.the_field_send, sendable) depth 30,
+                  heap.the_send,
                   (
-                    search (pause.the_field_send, options.the_field_send, crosses, sendable) depth 30,
+                    search (phase.the_field_send, sendable) depth 30,
                     (
-                      search sendable,
+                      search (pause.the_field_send, options.the_field_send, crosses, sendable) depth 30,
                       (
                         search sendable,
                         (
-                          seats-send ℓ,
+                          search sendable,
                           (
-                            places.the_send,
+                            seats-send ℓ,
                             (
-                              search (room.the_field_send, crosses, sendable) depth 30,
+                              places.the_send,
                               (
-                                search sendable,
+                                search (room.the_field_send, crosses, sendable) depth 30,
                                 (
-                                  search (session-send ℓ, fallback.the_send, crosses, sendable) depth 60,
+                                  search sendable,
                                   (
-                                    search (lost.the_field_send, vectors.the_send, crosses, sendable) depth 30,
-                                    tt,
+                                    search (session-send ℓ, fallback.the_send, crosses, sendable) depth 60,
+                                    (
+                                      search (lost.the_field_send, vectors.the_send, crosses, sendable) depth 30,
+                                      tt,
+                                    ),
                                   ),
                                 ),
                               ),

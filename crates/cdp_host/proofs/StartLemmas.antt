@@ -1,15 +1,14 @@
 -- The start of a host.
 use Rattle.std.proofs.Common.{◌≡◌, ℕ, List, [], map, Bool, false, Option, None, refl, sym, ap, subst, ◌∙◌}
 use Rattle.js_tree.specs.declared.script.Script.{Script}
-use Rattle.js_semantics.specs.Run.{Run, placed_scripts, program_from}
+use Rattle.js_semantics.specs.Run.{Run}
 use Rattle.js_semantics.specs.Sources.{terms_of_scripts}
-use Rattle.js_semantics.specs.Terms.{Terms}
 use Rattle.locations.specs.declared.spot.Spot.{Spot}
 use Rattle.locations.specs.Locations.{break_locations}
 use Rattle.breakpoints.specs.declared.holding.Holding.{Holding}
 use Rattle.js_machine.specs.declared.end.End.{End}
 use Rattle.js_machine.specs.declared.machine.Started.{Started}
-use Rattle.js_machine.specs.Machines.{IsKept}
+use Rattle.js_machine.specs.Machines.{IsKept, program_of}
 use Rattle.js_machine.specs.Starts.{IsStarted}
 use Rattle.cdp_host_seats.specs.Fallbacks.{HasRoom, fallback_held, fallback_of}
 use Rattle.cdp_host_seats.specs.declared.fallback.Fallback.{Fallback}
@@ -18,7 +17,6 @@ use Rattle.cdp_host.specs.Programs.{start, printed_of}
 use Rattle.cdp_host_isolation.specs.Meanings.{phase_of}
 use Rattle.cdp_host_isolation.specs.Seats.{is_attached, some}
 use Rattle.cdp_host.specs.Histories.{Meaning, begin}
-use Rattle.pure_eval.specs.Workspaces.{Workspace, begun}
 use Rattle.cdp_session.specs.Sessions.{Session}
 use Rattle.cdp_host.specs.Hosts.{Parts, AreLines, IsSound, machine_run}
 use Rattle.cdp_host.proofs.ProgramLemmas.{start-prints}
@@ -50,6 +48,13 @@ start-means scripts input wait s is =
     } in
     ap f is.run
 
+-- its code is that of the scripts
+pub program-is : (scripts : List Script) (input : List (List ℕ)) (s : Started)
+    → IsStarted (terms_of_scripts scripts) input s
+    → program_of s.machine ≡ code_of scripts
+unfolding code_of
+program-is scripts input s is = is.program
+
 started_prints : (scripts : List Script) (input : List (List ℕ)) (s : Started)
     → IsStarted (terms_of_scripts scripts) input s
     → s.machine.context.printed ≡ []
@@ -59,20 +64,20 @@ started_prints scripts input s is =
     ∙ ap (λ m. printed_of m.program) (start-means scripts input false s is)
     ∙ start-prints scripts input
 
-pub start-sound : (scripts : List Script) (input lines : List (List ℕ)) (spots : List (List Spot)) (s : Started)
+pub start-sound : (scripts shared : List Script) (input lines : List (List ℕ)) (spots : List (List Spot)) (s : Started)
     → IsStarted (terms_of_scripts scripts) input s
     → AreLines scripts lines
     → spots ≡ map break_locations scripts
     → (held : Fallback Session) → HasRoom 0 held → fallback_held held ≡ fallback_of []
-    → (index : List Holding) → index ≡ []
-    → IsSound scripts lines spots s.machine false [] 0 index held []
-unfolding code_of
-start-sound scripts input lines spots s is located found held room made index none =
+    → (index : List Holding) → index ≡ [] → shared ≡ scripts
+    → IsSound scripts shared lines spots s.machine false [] 0 index held []
+start-sound scripts shared input lines spots s is located found held room made index none same =
     let K : Option End → Type 0 = IsKept in
     record {
       lines = located;
       spots = found;
-      code = is.program;
+      code = program-is scripts input s is;
+      shared = same;
       handed = λ works. started_prints scripts input s is;
       kept = λ works. subst K (sym is.going) tt;
       quiet = λ works. refl;
@@ -82,12 +87,3 @@ start-sound scripts input lines spots s is located found held room made index no
       indexed = gone-indexed [] index refl none;
       fit = tt;
     }
-
--- what the evaluations of a session begin with
-pub code-begun : (scripts : List Script) (terms placed : Terms) (w : Workspace)
-    → terms ≡ terms_of_scripts scripts
-    → placed ≡ placed_scripts terms
-    → w ≡ begun (program_from 1 placed)
-    → w ≡ begun (code_of scripts)
-unfolding code_of
-code-begun scripts terms placed w made put is = is ∙ ap (λ ts. begun (program_from 1 ts)) (put ∙ ap placed_scripts made)

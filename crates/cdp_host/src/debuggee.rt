@@ -11,8 +11,6 @@ ghost use Rattle.frames_scopes_types.specs.Views.{frame_of};
 ghost use Rattle.frames_scopes.specs.Frames.{walk};
 ghost use Rattle.frames_scopes.specs.FrameViews.{frame_shown};
 ghost use Rattle.frames_scopes.specs.Standings.{CanWalk};
-ghost use Rattle.pure_eval.specs.Workspaces.{begun};
-ghost use Rattle.cdp_session.specs.Code.{code_of};
 ghost use Rattle.cdp_session.specs.Conditions.{top_of};
 ghost use Rattle.cdp_session.specs.Evaluations.{innermost};
 ghost use Rattle.cdp_host.specs.Hosts.{AreLines, machine_run};
@@ -26,13 +24,10 @@ use frames_scopes_types::CallFrame;
 use js_heap::built_in::script_scope;
 use js_heap::value::{Addr, Value};
 use js_heap_memory::heap::BaseHeap;
-use js_heap_memory::names::NameTable;
 use js_machine::machine::Machine;
-use js_machine::scripts::terms_of_scripts;
 use js_machine_inspection::standing::Thrown;
-use js_machine_lowering_parts::literals::placed_scripts;
 use js_tree::script::{Expression, FunctionCode, Script};
-use pure_eval::{PreparedSource, Workspace};
+use pure_eval::PreparedSource;
 use pure_eval_preparation::{prepare, prepare_function};
 use std::alloc::{AllocError, Global};
 
@@ -65,19 +60,6 @@ pub(crate) fn is_over(machine: &Machine) -> bool
         Some(_) => true,
         None => machine.end().is_some(),
     }
-}
-
-/// What the evaluations of a session begin with, for a program of these scripts and names.
-fn workspace_of(
-    alloc: Global,
-    scripts: &[Script],
-    names: &NameTable,
-) -> Result<Workspace, AllocError>
-    ensures { IfOk result (λ w. w.workspace ≡ begun (code_of scripts.now)) }
-{
-    let terms = terms_of_scripts(alloc, scripts)?;
-    let placed = placed_scripts(alloc, &terms)?;
-    Workspace::start(alloc, names, &placed)
 }
 
 // ---- the top frame
@@ -224,10 +206,6 @@ impl Program for Debuggee<'_> {
 
     fn is_over(&self) -> bool {
         is_over(self.machine)
-    }
-
-    fn begun(&self, alloc: Global, scripts: &[Script]) -> Result<Workspace, AllocError> {
-        workspace_of(alloc, scripts, self.machine.names())
     }
 
     fn prepared(

@@ -11,9 +11,11 @@ ghost use Rattle.cdp_host_isolation.specs.Seats.{is_attached, each, fallen, repo
 ghost use Rattle.cdp_host_isolation.specs.Standing.{broken_seat, fallen_in, fell, less};
 ghost use Rattle.cdp_host_isolation.specs.declared.seat.Seat.TheVariants.{Attached};
 ghost use Rattle.js_tree.specs.declared.script.Script.{Script as AnyScript};
+ghost use Rattle.js_machine.specs.Machines.{program_of};
 ghost use Rattle.locations.specs.Locations.{break_locations};
 ghost use Rattle.cdp_json.specs.Messages.{refusal_text};
 ghost use Rattle.cdp_json.specs.declared.refusal.Refusal.{Refusal};
+ghost use Rattle.cdp_session.specs.Code.{code_of};
 ghost use Rattle.cdp_session.specs.Replies.{answer_of, outcome_of, IsRefused};
 ghost use Rattle.cdp_session.specs.Sessions.{Session as Kept, sent};
 ghost use Rattle.cdp_session.specs.Situations.{HasSpots, seen};
@@ -46,7 +48,7 @@ use cdp_host_seats::{
 };
 use cdp_host_turns::{Ran, State, Told};
 use cdp_json::ReadingRoom;
-use cdp_session::{Asks, Pause, Program, Session, Situation};
+use cdp_session::{Asks, CodedScripts, Pause, Program, Session, Situation};
 use cdp_session_messages::SessionEnd;
 use cdp_text::line_table::LineTable;
 use cdp_text::units::{Units, text_of};
@@ -55,6 +57,7 @@ use js_machine::machine::{Machine, Started};
 use js_machine_actions::shown::shown;
 use js_machine_engine::stepped::Finish;
 use js_tree::script::Script;
+use pure_eval::ScriptsCode;
 use std::alloc::{AllocError, Global};
 use std::collections::VecDeque;
 use std::marker::Model;
@@ -65,6 +68,8 @@ use std::mem;
 pub struct Host<'p> {
     alloc: Global,
     scripts: &'p [Script],
+    // the same scripts with their code, which each session shares
+    shared: CodedScripts<'p>,
     lines: Vec<LineTable>,
     spots: ScriptSpots,
     machine: Machine,
@@ -104,7 +109,7 @@ impl<'p> Model for Host<'p> {
       fallen = a.fallen.items;
     } };
 
-    ghost invariant = { λ a. IsSound a.scripts.now a.lines.items a.spots a.machine a.broken a.seats.items a.seats.len a.index a.fallback a.fallen.items };
+    ghost invariant = { λ a. IsSound a.scripts.now a.shared a.lines.items a.spots a.machine a.broken a.seats.items a.seats.len a.index a.fallback a.fallen.items };
 }
 
 /// What a command sees of a program that is paused there, if it is paused.
@@ -124,6 +129,19 @@ fn situation_of<'d, P: Program>(
         paused,
         program,
     }
+}
+
+/// Scripts with the code that a machine runs of them.
+fn coded_scripts<'p>(
+    alloc: Global,
+    scripts: &'p [Script],
+    machine: &Machine,
+) -> Result<CodedScripts<'p>, AllocError>
+    requires { program_of machine.now ≡ code_of scripts.now }
+    ensures { IfOk result (λ coded. coded ≡ scripts.now) }
+{
+    let code = ScriptsCode::of(alloc, machine.names(), machine.table())?;
+    CodedScripts::of(alloc, scripts, code)
 }
 
 /// The steps that were made, and the texts that they printed.
@@ -168,9 +186,11 @@ impl<'p> Host<'p> {
         let lines = lines_of_all(alloc, scripts)?;
         let spots = ScriptSpots::of(alloc, scripts)?;
         let Started { machine, heap } = Machine::start(alloc, scripts, input)?;
+        let shared = coded_scripts(alloc, scripts, &machine)?;
         Ok(Host {
             alloc,
             scripts,
+            shared,
             lines,
             spots,
             machine,
@@ -277,7 +297,7 @@ impl<'p> Host<'p> {
             return Err(AllocError);
         }
         let number = self.sessions() + 1;
-        let session = Session::new(self.alloc, number, self.scripts);
+        let session = Session::new(self.alloc, number, self.shared.another()?);
         self.fallback.reserve(self.seats.len() + 1)?;
         self.seats.push(Seat::Attached(session))?;
         Ok(number)

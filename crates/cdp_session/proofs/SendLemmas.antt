@@ -27,9 +27,12 @@ use Rattle.js_semantics.proofs.form.SourceMark.TheSendSync as mark
 use Rattle.js_machine_terms.proofs.term.Term.TheLaws.TheKnot as term
 use Rattle.breakpoints.proofs.breakpoints.Breakpoints.TheSendSync as breakpoints
 use Rattle.object_groups.proofs.handles.Handles.TheSendSync as handles
+use Rattle.pure_eval.proofs.scripts_code.ScriptsCode.TheSendSync as code
 use Rattle.pure_eval.proofs.workspace.Workspace.TheSendSync as workspace
 use Rattle.cdp_session_messages.proofs.outbox.Outbox.TheSendSync as outbox
 use Rattle.stepping.proofs.rules.Rules.TheSendSync as rules
+use Rattle.cdp_session.specs.contracts.coded_scripts.CodedScripts as coded
+use Rattle.cdp_session.specs.contracts.coded_scripts.CodedScripts.TheInside as coded_inside
 use Rattle.cdp_session.specs.contracts.conditions.Condition as condition
 use Rattle.cdp_session.specs.contracts.conditions.Condition.TheInside as condition_inside
 use Rattle.cdp_session.specs.contracts.evaluations.Evaluations as evaluations
@@ -109,10 +112,23 @@ condition-parts =
 condition-send : IsSend condition.the_row
 condition-send = view_send _ _ _ _ _ condition-parts
 
+coded-parts : (ℓ : NamedLft) → IsSend (coded_inside.the_row ℓ)
+coded-parts ℓ =
+    declared_send (coded_inside.the_type ℓ) (
+      search (global.the_field_send, sendable) depth 30,
+      (
+        search (script-sync, crosses, sendable) depth 30,
+        (search (code.the_send, code.the_sync, crosses, sendable) depth 30, tt),
+      ),
+    )
+
+pub coded-send : (ℓ : NamedLft) → IsSend (coded.the_row ℓ)
+coded-send ℓ = view_send _ _ _ _ _ (coded-parts ℓ)
+
 evaluations-parts : (ℓ : NamedLft) → IsSend (evaluations_inside.the_row ℓ)
 evaluations-parts ℓ =
     declared_send (evaluations_inside.the_type ℓ)
-    (search (script-sync, crosses, sendable) depth 30, (search (workspace.the_send, crosses, sendable) depth 30, tt))
+    (coded-send ℓ, (search (workspace.the_send, crosses, sendable) depth 30, tt))
 
 evaluations-send : (ℓ : NamedLft) → IsSend (evaluations.the_row ℓ)
 evaluations-send ℓ = view_send _ _ _ _ _ (evaluations-parts ℓ)

@@ -140,7 +140,7 @@ fn holds_at_top<P: Program>(
 {
     let Top { scope, this } = situation.program.top();
     let prepared = evaluations.hold(alloc, situation.program, expression)?;
-    let mut opened = evaluations.open_holding(alloc, situation)?;
+    let mut opened = evaluations.open_holding(situation)?;
     let at = opened.next_address();
     let end = opened.evaluate_held::<StepTable>(alloc, scope, this, &prepared);
     expression.keep(at, prepared);

@@ -276,7 +276,7 @@ impl Session<'_> {
             self.old.workspace) }
         ensures rest { OnOk result (self.new ≡ with_workspace no_workspace self.old) }
     {
-        self.evaluations.open(self.alloc, situation)
+        self.evaluations.open(situation)
     }
 
     /// The answer to an evaluation that ended so.

@@ -9,10 +9,10 @@ ghost use Rattle.cdp_session.specs.Conditions.{AreRead, HoldsRead, IsReadyText};
 ghost use Rattle.cdp_session.specs.Sessions.{no_workspace};
 ghost use Rattle.cdp_session.specs.Situations.{seen};
 
+use crate::coded_scripts::CodedScripts;
 use crate::program::Program;
 use crate::ready::ReadyExpression;
 use crate::situation::Situation;
-use js_tree::script::Script;
 use pure_eval::{OpenWorkspace, PreparedSource, Workspace};
 use std::alloc::{AllocError, Global};
 use std::marker::Model;
@@ -29,37 +29,18 @@ pub(crate) enum Making {
     GivenUp,
 }
 
-/// What evaluations begin with in a program of these scripts. No code is held.
-fn begun_workspace<P: Program>(
-    alloc: Global,
-    scripts: &[Script],
-    program: &P,
-) -> Result<Workspace, AllocError>
-    ensures workspace { IfOk result (λ w. w.workspace ≡ begun (code_of scripts.now)) }
-    ensures held { IfOk result (λ w. AreRead w.held) }
-{
-    let mut workspace = program.begun(alloc, scripts)?;
-    workspace.drop_held();
-    Ok(workspace)
-}
-
 impl Making {
     /// The workspace, for a program of these scripts. It is made now where it wasn't yet.
     ///
     /// # Errors
     ///
     /// It was given up, or there is no memory for it.
-    fn into_workspace<P: Program>(
-        self,
-        alloc: Global,
-        scripts: &[Script],
-        program: &P,
-    ) -> Result<Workspace, AllocError>
+    fn into_workspace(self, scripts: &CodedScripts<'_>) -> Result<Workspace, AllocError>
         ensures workspace { IfOk result (λ w. w.workspace ≡ workspace_in scripts.now self) }
         ensures held { HoldsRead self → IfOk result (λ w. AreRead w.held) }
     {
         match self {
-            Making::NotMade => begun_workspace(alloc, scripts, program),
+            Making::NotMade => scripts.workspace(),
             Making::Made(workspace) => Ok(workspace),
             Making::GivenUp => Err(AllocError),
         }
@@ -83,7 +64,7 @@ impl Making {
 /// until then. Contracts see it as if it had been made at once. The code that it holds is that of expressions' texts.
 #[derive(Drop)]
 pub(crate) struct Evaluations<'p> {
-    scripts: &'p [Script],
+    scripts: CodedScripts<'p>,
     making: Making,
 }
 
@@ -98,7 +79,7 @@ impl<'p> Model for Evaluations<'p> {
 
     ghost coded = { Prim.hlevel (codes, term_coded) };
 
-    ghost view = { λ e. workspace_in e.scripts.now e.making };
+    ghost view = { λ e. workspace_in e.scripts e.making };
 
     ghost invariant = { λ e. HoldsRead e.making };
 }
@@ -125,8 +106,8 @@ fn open_over<'b, P: Program>(
 
 impl<'p> Evaluations<'p> {
     /// Those of a session that evaluated nothing yet. Takes no memory.
-    pub(crate) fn new(scripts: &'p [Script]) -> Evaluations<'p>
-        ensures { result ≡ begun (code_of scripts.now) }
+    pub(crate) fn new(scripts: CodedScripts<'p>) -> Evaluations<'p>
+        ensures { result ≡ begun (code_of scripts.entry) }
     {
         Evaluations {
             scripts,
@@ -135,13 +116,13 @@ impl<'p> Evaluations<'p> {
     }
 
     /// Takes the workspace out, which is to be put back. It is made now where it wasn't yet.
-    fn take<P: Program>(&mut self, alloc: Global, program: &P) -> Result<Workspace, AllocError>
+    fn take(&mut self) -> Result<Workspace, AllocError>
         ensures workspace { IfOk result (λ w. w.workspace ≡ self.old) }
         ensures held { IfOk result (λ w. AreRead w.held) }
         ensures rest { self.new ≡ no_workspace }
     {
         let making = mem::replace(&mut self.making, Making::GivenUp);
-        making.into_workspace(alloc, self.scripts, program)
+        making.into_workspace(&self.scripts)
     }
 
     /// The workspace, open over the cells of the program. Until it is put back there is none. No code is held any more.
@@ -151,14 +132,13 @@ impl<'p> Evaluations<'p> {
     /// There is no memory for it, or there was none for an evaluation before. The session is to be dropped.
     pub(crate) fn open<'b, P: Program>(
         &mut self,
-        alloc: Global,
         situation: &Situation<'b, P>,
     ) -> Result<OpenWorkspace<'b>, AllocError>
         ensures opened { IfOk result (λ o. o.workspace ≡ just_opened (seen P.standing situation.now).standing.world
             self.old) }
         ensures rest { OnOk result (self.new ≡ no_workspace) }
     {
-        let mut workspace = self.take(alloc, situation.program)?;
+        let mut workspace = self.take()?;
         workspace.drop_held();
         open_over(workspace, situation)
     }
@@ -170,7 +150,6 @@ impl<'p> Evaluations<'p> {
     /// There is no memory for it, or there was none for an evaluation before. The session is to be dropped.
     pub(crate) fn open_holding<'b, P: Program>(
         &mut self,
-        alloc: Global,
         situation: &Situation<'b, P>,
     ) -> Result<OpenWorkspace<'b>, AllocError>
         ensures opened { IfOk result (λ o. o.workspace ≡ just_opened (seen P.standing situation.now).standing.world
@@ -178,7 +157,7 @@ impl<'p> Evaluations<'p> {
         ensures held { IfOk result (λ o. AreRead o.held) }
         ensures rest { OnOk result (self.new ≡ no_workspace) }
     {
-        let workspace = self.take(alloc, situation.program)?;
+        let workspace = self.take()?;
         open_over(workspace, situation)
     }
 
@@ -199,7 +178,7 @@ impl<'p> Evaluations<'p> {
         ensures kept { OnOk result (self.new ≡ self.old) }
         ensures same { expression.new ≡ expression.old }
     {
-        let workspace = self.take(alloc, program)?;
+        let workspace = self.take()?;
         let prepared = expression.prepared(alloc, program, workspace.next_address())?;
         let workspace = workspace.hold(alloc, &prepared)?;
         self.put_holding(workspace);

@@ -17,6 +17,7 @@
 
 mod asks;
 mod calling;
+mod coded_scripts;
 mod conditions;
 mod console;
 mod describing;
@@ -43,6 +44,7 @@ mod sources;
 mod top;
 
 pub use asks::Asks;
+pub use coded_scripts::CodedScripts;
 pub use ending::Ending;
 pub use named::Named;
 pub use program::{Program, ProgramCells};

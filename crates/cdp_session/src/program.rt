@@ -7,8 +7,8 @@ use frames_scopes_types::CallFrame;
 use js_heap::value::{Addr, Value};
 use js_heap_memory::heap::BaseHeap;
 use js_heap_memory::names::NameTable;
-use js_tree::script::{Expression, FunctionCode, Script};
-use pure_eval::{PreparedSource, Workspace};
+use js_tree::script::{Expression, FunctionCode};
+use pure_eval::PreparedSource;
 use std::alloc::{AllocError, Global};
 
 /// The cells of a program, with the table of its names.
@@ -28,8 +28,6 @@ pub trait Program {
     ghost use Rattle.cdp_session.specs.Situations.{Standing};
     ghost use Rattle.js_heap_memory.specs.Heaps.{heap_world};
     ghost use Rattle.pure_eval.specs.Preparing.{IsPrepared, IsPreparedFunction};
-    ghost use Rattle.pure_eval.specs.Workspaces.{begun};
-    ghost use Rattle.cdp_session.specs.Code.{code_of};
 
     ghost standing: { Self → Standing };
 
@@ -68,14 +66,6 @@ pub trait Program {
     /// Whether its run has ended. Takes no memory.
     fn is_over(&self) -> bool
         ensures { result ≡ (standing self.now).over };
-
-    /// What evaluations over it begin with, if these are its scripts.
-    ///
-    /// # Errors
-    ///
-    /// There is no memory for it.
-    fn begun(&self, alloc: Global, scripts: &[Script]) -> Result<Workspace, AllocError>
-        ensures { IfOk result (λ w. w.workspace ≡ begun (code_of scripts.now)) };
 
     /// An expression that is ready to be evaluated, its source to be kept at an address.
     ///

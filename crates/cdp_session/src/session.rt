@@ -22,6 +22,7 @@ ghost use Rattle.cdp_session.specs.Replies.{answer_by, answer_of, comes_to, outc
 ghost use Rattle.cdp_session.specs.Made.{done_texts, KeepsIfRefused, Makes};
 
 use crate::asks::Asks;
+use crate::coded_scripts::CodedScripts;
 use crate::conditions::{Condition, ids_hit};
 use crate::done::{Done, Fault};
 use crate::ending::Ending;
@@ -42,7 +43,6 @@ use cdp_session_messages::{
 use cdp_text::position::Place;
 use cdp_text::units::Units;
 use js_heap::value::Value;
-use js_tree::script::Script;
 use object_groups::Handles;
 use remote_objects::backtrace;
 use std::alloc::{AllocError, Global};
@@ -96,10 +96,9 @@ fn may_be_hit(breakpoints: &Breakpoints, place: Option<Place>) -> bool
 
 impl<'p> Session<'p> {
     /// A session of this number, of a program of these scripts, that asks for nothing and has evaluated nothing. It
-    /// takes no memory: the code that its evaluations run is made where an evaluation, a call or a list of properties
-    /// first needs it.
-    pub fn new(alloc: Global, number: u64, scripts: &'p [Script]) -> Session<'p>
-        ensures { result ≡ fresh number (begun (code_of scripts.now)) }
+    /// takes no memory: its evaluations go on from the code that the scripts have.
+    pub fn new(alloc: Global, number: u64, scripts: CodedScripts<'p>) -> Session<'p>
+        ensures { result ≡ fresh number (begun (code_of scripts.entry)) }
     {
         Session {
             alloc,

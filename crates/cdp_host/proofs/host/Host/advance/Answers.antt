@@ -42,6 +42,7 @@ invariant_of-self-in-Err c =
       lines = c.self.invariant.lines;
       spots = c.self.invariant.spots;
       code = same_program a.machine c.make_stretch.new.machine c.in-Err.ensures.code ∙ c.self.invariant.code;
+      shared = c.self.invariant.shared;
       handed = λ works. absurd cc;
       kept = λ works. absurd cc;
       quiet = λ works. absurd cc;

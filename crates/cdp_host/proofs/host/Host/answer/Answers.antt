@@ -38,7 +38,7 @@ invariant_of-self c =
     let B : Situation → Type 0 = λ seen.
     AnswersIn c.answer.result (answer_of seen it.0 c.args.text.now) c.args.s c.as_mut_slice.result.now
     c.answer.new.seats in
-    sound-seats a.scripts.now a.lines.items a.spots a.machine a.broken a.seats.items
+    sound-seats a.scripts.now a.shared a.lines.items a.spots a.machine a.broken a.seats.items
     (take a.seats.len (c.answer.new.seats ++ rest)) a.seats.len a.index c.answer.new.index a.fallback a.fallen.items
     c.self.invariant
     (works-at c.args.s a.broken a.seats.items c.self.invariant.alone held)

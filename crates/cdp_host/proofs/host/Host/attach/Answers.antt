@@ -38,7 +38,7 @@ pub invariant_of-self-2 : goal.invariant_of-self-2
 invariant_of-self-2 c =
     let a = c.self.inside in
     let P : ℕ → Type 0 = λ n. HasRoom n c.reserve.new.self in
-    sound-more a.scripts.now a.lines.items a.spots a.machine a.broken a.seats.items c.push.new.self.items
+    sound-more a.scripts.now a.shared a.lines.items a.spots a.machine a.broken a.seats.items c.push.new.self.items
     a.seats.len c.push.new.self.len a.index a.index
     a.fallback c.reserve.new.self a.fallen.items c.self.invariant c.if-self.false
     (attach-fit a.scripts.now c.new-session.result _ _ a.seats.items c.push.new.self.items c.new-session.ensures
@@ -59,6 +59,7 @@ returns-clause-leaves c =
     subst P (sym c.in_ok-reserve.ensures.same)
     (attach-leaves h c.args.self.now c.push.new.self.items c.new-session.result c.self.view_is
     (c.new-session.ensures
+    ∙ ap (λ ss. f c.sessions-number.number (begun (code_of ss))) (c.in_ok-another.ensures ∙ c.self.invariant.shared)
     ∙ ap (λ n. f (n + 1) (begun (code_of a.scripts.now)))
     (c.sessions-number.ensures ∙ sym (ap (λ o. length o.meaning.seats) c.self.view_is)))
     c.in_ok-push.ensures.items)

@@ -15,6 +15,7 @@ invariant_of-self c =
       lines = c.self.invariant.lines;
       spots = c.self.invariant.spots;
       code = c.self.invariant.code;
+      shared = c.self.invariant.shared;
       handed = λ works. absurd cc;
       kept = λ works. absurd cc;
       quiet = λ works. absurd cc;

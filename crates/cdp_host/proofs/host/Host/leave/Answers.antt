@@ -26,7 +26,7 @@ invariant_of-self c =
     put-back a.seats.len c.args.s Left a.seats.items news rest
     (sym c.as_mut_slice.ensures.len ∙ ap length c.as_mut_slice.ensures.value)
     (c.leave.ensures ∙ ap (put c.args.s Left) c.as_mut_slice.ensures.value) in
-    sound-seats a.scripts.now a.lines.items a.spots a.machine a.broken a.seats.items w a.seats.len a.index
+    sound-seats a.scripts.now a.shared a.lines.items a.spots a.machine a.broken a.seats.items w a.seats.len a.index
     c.forget.new.self a.fallback
     a.fallen.items
     c.self.invariant (works-at c.args.s a.broken a.seats.items c.self.invariant.alone held)

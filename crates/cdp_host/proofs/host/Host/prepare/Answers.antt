@@ -13,6 +13,7 @@ invariant_of-self c =
       lines = was.lines;
       spots = was.spots;
       code = was.code;
+      shared = was.shared;
       handed = was.handed;
       kept = was.kept;
       quiet = was.quiet;

@@ -21,6 +21,7 @@ invariant_of-self c =
       lines = c.self.invariant.lines;
       spots = c.self.invariant.spots;
       code = c.self.invariant.code;
+      shared = c.self.invariant.shared;
       handed = c.self.invariant.handed;
       kept = c.self.invariant.kept;
       quiet = c.self.invariant.quiet;

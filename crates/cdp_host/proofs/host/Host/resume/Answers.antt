@@ -29,7 +29,7 @@ invariant_of-self c =
     let over = subst (λ ss. OverAll (HearsOn P) a.seats.items ss) (sym back)
     (subst (λ ss. OverAll (HearsOn P) ss news) c.as_mut_slice.ensures.value (c.resume_all.ensures a.scripts.now))
     in
-    sound-seats a.scripts.now a.lines.items a.spots a.machine a.broken a.seats.items
+    sound-seats a.scripts.now a.shared a.lines.items a.spots a.machine a.broken a.seats.items
     w a.seats.len a.index c.forget_lost.new.index a.fallback a.fallen.items
     c.self.invariant (ap (λ h. h.broken) c.self.view_is ∙ c.requires)
     (subst (AllFit P) (sym back) (on-each P c.as_mut_slice.result.now news (c.resume_all.ensures a.scripts.now)).1)

@@ -15,7 +15,7 @@ invariant_of-self c =
     (λ o. is_attached (seat_of c.args.s o.meaning.seats) ≡ true) (sym c.self.view_is) c.requires in
     let it = whose (seat_of c.args.s a.seats.items) held in
     let rest = drop (length c.take.new.seats) a.seats.items in
-    sound-seats a.scripts.now a.lines.items a.spots a.machine a.broken a.seats.items
+    sound-seats a.scripts.now a.shared a.lines.items a.spots a.machine a.broken a.seats.items
     (take a.seats.len (c.take.new.seats ++ rest)) a.seats.len a.index a.index a.fallback a.fallen.items
     c.self.invariant
     (works-at c.args.s a.broken a.seats.items c.self.invariant.alone held)
