@@ -1,5 +1,5 @@
 -- Tables that go on.
-use Rattle.std.proofs.Common.{◌≡◌, ℕ, zero, suc, ◌+◌, ◌<◌, ◌≤◌, Bool, true, false, List, [], ◌∷◌, ◌++◌, length, take, get_or, Option, Some, None, refl, sym, ap, subst, ◌∙◌, ◌⊎◌, inl, inr, arith, length-append, if◌then◌else◌}
+use Rattle.std.proofs.Common.{◌≡◌, ℕ, zero, suc, ◌+◌, ◌<◌, ◌≤◌, Bool, true, false, List, [], ◌∷◌, ◌++◌, length, take, Option, Some, None, refl, sym, ap, subst, ◌∙◌, ◌⊎◌, inl, inr, arith, length-append, if◌then◌else◌}
 use Rattle.std.specs.Prelude.{slice_get, unwrap_or, nat_lt}
 use Rattle.js_heap.specs.Keys.{same_units}
 use Rattle.js_heap_memory.specs.Names.{spare, name_of, Differ, text_place, number_of}
