@@ -1,4 +1,4 @@
-use Rattle.std.proofs.Common.{◌≡◌, ◌<◌, length, sym, ap, ◌∙◌, subst, option_map, arith, rules}
+use Rattle.std.proofs.Common.{◌<◌, length, sym, ap, ◌∙◌, subst, option_map, arith, rules}
 use Rattle.json.specs.Tree.{json_tokens, items_tokens, members_tokens}
 use Rattle.json.specs.Value as trees
 use Rattle.json.proofs.Trees.{item_smaller, member_smaller}
