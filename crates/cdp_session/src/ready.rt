@@ -19,7 +19,8 @@ pub(crate) struct Ready {
     source: PreparedSource,
 }
 
-/// An expression that its text was parsed to, with what it was last made ready as, if it was. Contracts see the expression.
+/// An expression that its text was parsed to, with what it was last made ready as, if it was. Contracts see the
+/// expression.
 #[derive(Drop)]
 pub(crate) struct ReadyExpression {
     expression: Expression,
