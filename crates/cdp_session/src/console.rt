@@ -19,7 +19,7 @@ use js_heap::value::Value;
 use js_heap_memory::heap::BaseHeap;
 use object_groups::Handles;
 use remote_objects::Describer;
-use std::alloc::{AllocError, Global};
+use std::alloc::AllocError;
 
 /// `console`
 static CONSOLE: [u16; 7] = [99, 111, 110, 115, 111, 108, 101];

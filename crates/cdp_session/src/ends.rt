@@ -16,7 +16,7 @@ use cdp_json::value::Json;
 use cdp_session_messages::{throw_details, throw_text, url_at};
 use cdp_text::position::Place;
 use js_heap::value::Value;
-use std::alloc::{AllocError, Global};
+use std::alloc::AllocError;
 
 impl Session<'_> {
     /// The value that was thrown. If it is an object, it is held from then on.
