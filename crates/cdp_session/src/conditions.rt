@@ -1,5 +1,5 @@
-//! Conditions of breakpoints, evaluated where the program arrived: nothing of an evaluation is kept (Chrome DevTools Protocol
-//! 1.3, `Debugger.setBreakpoint`).
+//! Conditions of breakpoints, evaluated where the program arrived: nothing of an evaluation is kept (Chrome DevTools
+//! Protocol 1.3, `Debugger.setBreakpoint`).
 
 ghost use Rattle.std.specs.Prelude.{◌≡◌, false, filter, map, slice_get, IfOk, IfSome, OnOk, Some};
 ghost use Rattle.breakpoints.specs.Breakpoints.{hits_at, id_of};
@@ -125,8 +125,8 @@ fn comes_true(opened: &OpenWorkspace<'_>, end: Evaluated) -> Result<bool, AllocE
     }
 }
 
-/// Whether an expression comes to a value that counts as true in the top frame of the program. Nothing of its evaluation is kept
-/// but what it was made ready as, and its code is held.
+/// Whether an expression comes to a value that counts as true in the top frame of the program. Nothing of its
+/// evaluation is kept but what it was made ready as, and its code is held.
 fn holds_at_top<P: Program>(
     alloc: Global,
     evaluations: &mut Evaluations<'_>,
@@ -184,7 +184,8 @@ impl Condition {
     }
 }
 
-/// Whether a breakpoint of this condition, or of none, is met where the program stands. The condition is parsed at its first use.
+/// Whether a breakpoint of this condition, or of none, is met where the program stands. The condition is parsed at its
+/// first use.
 fn is_met<P: Program>(
     alloc: Global,
     parsed: &mut Vec<Condition>,
@@ -206,7 +207,8 @@ fn is_met<P: Program>(
     }
 }
 
-/// The ids of the active breakpoints at a place that are met where the program stands, in the order in which they were set.
+/// The ids of the active breakpoints at a place that are met where the program stands, in the order in which they were
+/// set.
 fn ids_met<P: Program>(
     alloc: Global,
     breakpoints: &Breakpoints,

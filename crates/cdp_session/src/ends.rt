@@ -49,8 +49,8 @@ impl Session<'_> {
         throw_details(self.alloc, place, exception, id, url)
     }
 
-    /// The event that tells of a throw that ended the run, of this value at this place. If it is an object, it is held from
-    /// then on.
+    /// The event that tells of a throw that ended the run, of this value at this place. If it is an object, it is held
+    /// from then on.
     pub(crate) fn throw_told<P: Program>(
         &mut self,
         situation: &Situation<'_, P>,

@@ -109,8 +109,8 @@ fn innermost(scopes: &[Scope<'_>]) -> Addr
     }
 }
 
-/// How far from the top one the frame is whose id this is, of so many frames of the stop of this number; none where none
-/// of them has it.
+/// How far from the top one the frame is whose id this is, of so many frames of the stop of this number; none where
+/// none of them has it.
 fn depth_of(session: u64, stop: u64, id: &Units, count: usize) -> Option<usize>
     ensures { (frames : List ShownFrame) → length frames ≡ count
         → option_and_then (slice_get frames) result ≡ evaluations.frame_from session stop id.now 0 frames }
@@ -267,7 +267,8 @@ impl Session<'_> {
         self.answer_evaluation(situation.scripts, showing, end, opened)
     }
 
-    /// What the session's evaluations go on from, open over the cells of the program. Until it is put back the session has none.
+    /// What the session's evaluations go on from, open over the cells of the program. Until it is put back the session
+    /// has none.
     pub(crate) fn opened<'p, P: Program>(
         &mut self,
         situation: &Situation<'p, P>,

@@ -1,5 +1,5 @@
-//! A session of the Chrome DevTools Protocol: what a client asks for, how its commands are answered, by which rule it stops
-//! the program, and the texts that it is sent.
+//! A session of the Chrome DevTools Protocol: what a client asks for, how its commands are answered, by which rule it
+//! stops the program, and the texts that it is sent.
 //!
 //! It knows the program by its scripts, by where it is paused, and by where a step leads.
 //!

@@ -166,8 +166,8 @@ fn pause_text<P: Program>(
 }
 
 impl Session<'_> {
-    /// The event that tells of the stop of this number, at breakpoints of these ids, for this cause. The objects that it names
-    /// are held from then on.
+    /// The event that tells of the stop of this number, at breakpoints of these ids, for this cause. The objects that
+    /// it names are held from then on.
     pub(crate) fn pause_told<P: Program>(
         &mut self,
         situation: &Situation<'_, P>,

@@ -69,8 +69,8 @@ impl ReadyExpression {
         }
     }
 
-    /// The expression, ready to be evaluated with its source at an address. It is made ready anew only where it wasn't kept
-    /// for that address.
+    /// The expression, ready to be evaluated with its source at an address. It is made ready anew only where it wasn't
+    /// kept for that address.
     ///
     /// # Errors
     ///

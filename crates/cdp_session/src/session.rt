@@ -128,8 +128,8 @@ impl<'p> Session<'p> {
         !self.rules.enabled || self.rules.skip
     }
 
-    /// Whether the session names a stop behind a step that leads to this arrival, or would if the conditions of its breakpoints
-    /// held. Takes no memory.
+    /// Whether the session names a stop behind a step that leads to this arrival, or would if the conditions of its
+    /// breakpoints held. Takes no memory.
     pub fn may_name(&self, arrival: &Arrival) -> bool
         ensures { result ≡ may_name arrival.now self.now }
     {
@@ -137,8 +137,8 @@ impl<'p> Session<'p> {
         first_cause(&self.rules, arrival, may_be_hit).is_some()
     }
 
-    /// Whether a rule of the session other than that of breakpoints names a stop behind a step that leads to this arrival.
-    /// Takes no memory.
+    /// Whether a rule of the session other than that of breakpoints names a stop behind a step that leads to this
+    /// arrival. Takes no memory.
     pub fn wants(&self, arrival: &Arrival) -> bool
         ensures value { result ≡ wants arrival.now self.now }
         ensures named { IsTrue result ↔ IsNamedBeside self.now.rules arrival.now }
@@ -146,16 +146,16 @@ impl<'p> Session<'p> {
         wants(&self.rules, arrival)
     }
 
-    /// Whether the session asked for a pause, a step, or a place to run to. Without that no rule of it other than that of
-    /// breakpoints names a step that raised nothing and led to no `debugger` statement.
+    /// Whether the session asked for a pause, a step, or a place to run to. Without that no rule of it other than that
+    /// of breakpoints names a step that raised nothing and led to no `debugger` statement.
     pub fn has_request(&self) -> bool
         ensures { result ≡ has_request self.now.rules }
     {
         self.rules.has_request()
     }
 
-    /// The places to which its breakpoints resolved, each once, in the order of scripts, lines and columns. They are the
-    /// same where the breakpoints aren't active.
+    /// The places to which its breakpoints resolved, each once, in the order of scripts, lines and columns. They are
+    /// the same where the breakpoints aren't active.
     pub fn places(&self) -> &[Place]
         ensures exact { ArePlacesOf self.now.breakpoints.set result.now }
         ensures ascending { AreAscending result.now }
@@ -328,8 +328,8 @@ impl<'p> Session<'p> {
     ///
     /// # Errors
     ///
-    /// The text doesn't fit behind those that wait, which is found out before memory is asked for, or there is no memory for
-    /// it. The session is to be dropped.
+    /// The text doesn't fit behind those that wait, which is found out before memory is asked for, or there is no
+    /// memory for it. The session is to be dropped.
     pub fn resumed(&mut self) -> Result<(), SessionEnd>
         ensures session { OnOk result (self.new ≡ resumed self.old) }
         ensures fits { fits self.old.outbox ≡ true → OnOk result (fits (resumed self.old).outbox ≡ true) }
@@ -372,8 +372,9 @@ impl<'p> Session<'p> {
         self.send(text)
     }
 
-    /// The run ended so at this moment: where the session has the domain Runtime enabled it is told of the throw, if one
-    /// ended the run (`Runtime.exceptionThrown`), and then that the context is no more (`Runtime.executionContextDestroyed`).
+    /// The run ended so at this moment: where the session has the domain Runtime enabled it is told of the throw, if
+    /// one ended the run (`Runtime.exceptionThrown`), and then that the context is no more
+    /// (`Runtime.executionContextDestroyed`).
     ///
     /// # Errors
     ///
@@ -442,12 +443,13 @@ impl<'p> Session<'p> {
     // ---- commands
 
     /// Answers a text (JSON-RPC 2.0, section 5), which is read in this room: the reply or the refusal and the events of
-    /// the command, some of which come before the reply, stand behind the texts that wait. Says what the command asks of
-    /// the program. A refused command changes nothing else.
+    /// the command, some of which come before the reply, stand behind the texts that wait. Says what the command asks
+    /// of the program. A refused command changes nothing else.
     ///
     /// # Errors
     ///
-    /// The texts of the answer don't fit behind those that wait, or there is no memory for it. The session is to be dropped.
+    /// The texts of the answer don't fit behind those that wait, or there is no memory for it. The session is to be
+    /// dropped.
     pub fn tell<P: Program>(
         &mut self,
         situation: &Situation<'_, P>,

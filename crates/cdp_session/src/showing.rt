@@ -6,8 +6,8 @@ ghost use Rattle.cdp_session.specs.Evaluations.{detail_of};
 use cdp_text::units::Units;
 use remote_objects::Detail;
 
-/// How the value to which an evaluation comes is to be described: by value, or else with a handle in this group or in none, and
-/// with or without a preview.
+/// How the value to which an evaluation comes is to be described: by value, or else with a handle in this group or in
+/// none, and with or without a preview.
 #[derive(Drop)]
 pub(crate) struct Showing {
     pub(crate) group: Option<Units>,
