@@ -55,16 +55,16 @@ works-at s false seats alone held = refl
 
 -- ---- what holds of every host, with other seats
 
-pub sound-more : (scripts shared : List Script) (starts : List (List ℕ)) (found : List (List Spot)) (machine : Machine)
+pub sound-more : (scripts coded : List Script) (starts : List (List ℕ)) (found : List (List Spot)) (machine : Machine)
     (b : Bool)
     → (seats news : List (Seat Session)) (count more : ℕ) (index places : List Holding) (held wider : Fallback Session)
     (losses : List SessionLost)
-    → IsSound scripts shared starts found machine b seats count index held losses → b ≡ false
+    → IsSound scripts coded starts found machine b seats count index held losses → b ≡ false
     → AllFit (protocol scripts) news
     → IsIndexOf news places
     → HasRoom more wider → fallback_held wider ≡ fallback_held held
-    → IsSound scripts shared starts found machine b news more places wider losses
-sound-more scripts shared starts found machine b seats news count more index places held wider losses sound works fit
+    → IsSound scripts coded starts found machine b news more places wider losses
+sound-more scripts coded starts found machine b seats news count more index places held wider losses sound works fit
     indexed room same =
     record {
       lines = sound.lines;
@@ -81,16 +81,16 @@ sound-more scripts shared starts found machine b seats news count more index pla
       fit = fit;
     }
 
-pub sound-seats : (scripts shared : List Script) (starts : List (List ℕ)) (found : List (List Spot)) (machine : Machine)
+pub sound-seats : (scripts coded : List Script) (starts : List (List ℕ)) (found : List (List Spot)) (machine : Machine)
     (b : Bool)
     → (seats news : List (Seat Session)) (count : ℕ) (index places : List Holding) (held : Fallback Session)
     (losses : List SessionLost)
-    → IsSound scripts shared starts found machine b seats count index held losses → b ≡ false
+    → IsSound scripts coded starts found machine b seats count index held losses → b ≡ false
     → AllFit (protocol scripts) news
     → IsIndexOf news places
-    → IsSound scripts shared starts found machine b news count places held losses
-sound-seats scripts shared starts found machine b seats news count index places held losses sound works fit indexed =
-    sound-more scripts shared starts found machine b seats news count count index places held held losses sound works
+    → IsSound scripts coded starts found machine b news count places held losses
+sound-seats scripts coded starts found machine b seats news count index places held losses sound works fit indexed =
+    sound-more scripts coded starts found machine b seats news count count index places held held losses sound works
     fit indexed (sound.room works) refl
 
 pub nothing-fits : fits [] ≡ true

@@ -64,14 +64,14 @@ started_prints scripts input s is =
     ∙ ap (λ m. printed_of m.program) (start-means scripts input false s is)
     ∙ start-prints scripts input
 
-pub start-sound : (scripts shared : List Script) (input lines : List (List ℕ)) (spots : List (List Spot)) (s : Started)
+pub start-sound : (scripts coded : List Script) (input lines : List (List ℕ)) (spots : List (List Spot)) (s : Started)
     → IsStarted (terms_of_scripts scripts) input s
     → AreLines scripts lines
     → spots ≡ map break_locations scripts
     → (held : Fallback Session) → HasRoom 0 held → fallback_held held ≡ fallback_of []
-    → (index : List Holding) → index ≡ [] → shared ≡ scripts
-    → IsSound scripts shared lines spots s.machine false [] 0 index held []
-start-sound scripts shared input lines spots s is located found held room made index none same =
+    → (index : List Holding) → index ≡ [] → coded ≡ scripts
+    → IsSound scripts coded lines spots s.machine false [] 0 index held []
+start-sound scripts coded input lines spots s is located found held room made index none same =
     let K : Option End → Type 0 = IsKept in
     record {
       lines = located;

@@ -207,14 +207,14 @@ pub record FallsBack (old new : HostState) : Type 0 where
 -- handed out, the machine isn't given up, no loss is to be handed out, and there is room for what it falls back to with
 -- so many seats; then it has no session, nor has what it falls back to. The index has the places of each attached
 -- session, and no others. The texts that wait fit.
-pub record IsSound (scripts shared : List Script) (starts : List (List ℕ)) (found : List (List Spot))
+pub record IsSound (scripts coded : List Script) (starts : List (List ℕ)) (found : List (List Spot))
     (machine : Machine) (broken : Bool) (seats : List (Seat Session)) (count : ℕ) (index : List Holding)
     (fallback : HeldFallback Session) (fallen : List SessionLost)
     : Type 0 where
   pub lines : AreLines scripts starts
   pub spots : found ≡ map break_locations scripts
   pub code : program_of machine ≡ code_of scripts
-  pub shared : shared ≡ scripts
+  pub shared : coded ≡ scripts
   pub handed : broken ≡ false → machine.context.printed ≡ []
   pub kept : broken ≡ false → IsKept machine.ended
   pub quiet : broken ≡ false → fallen ≡ []
