@@ -32,7 +32,7 @@ returns-in_err-reserve-clause-err c =
       fallback = f;
       fallen = a.fallen.items;
     } in
-    on-err c.from_residual.result _ (ap V c.in_err-reserve.ensures.same ∙ c.self.view_is)
+    on-err c.from_residual-in_err-reserve.result _ (ap V c.in_err-reserve.ensures.same ∙ c.self.view_is)
 
 pub invariant_of-self-2 : goal.invariant_of-self-2
 invariant_of-self-2 c =
@@ -59,7 +59,8 @@ returns-clause-leaves c =
     subst P (sym c.in_ok-reserve.ensures.same)
     (attach-leaves h c.args.self.now c.push.new.self.items c.new-session.result c.self.view_is
     (c.new-session.ensures
-    ∙ ap (λ ss. f c.sessions-number.number (begun (code_of ss))) (c.in_ok-another.ensures ∙ c.self.invariant.shared)
+    ∙ ap (λ ss. f (c.sessions-number.result + 1) (begun (code_of ss)))
+    (c.in_ok-another.ensures ∙ c.self.invariant.shared)
     ∙ ap (λ n. f (n + 1) (begun (code_of a.scripts.now)))
     (c.sessions-number.ensures ∙ sym (ap (λ o. length o.meaning.seats) c.self.view_is)))
     c.in_ok-push.ensures.items)
