@@ -8,8 +8,8 @@ of-requires-clause-scripts c =
     let P : List (List ℕ) → Type 0 = λ ts. IsOfScripts ts c.table.result.now in
     subst P (sym c.names.ensures) c.table.ensures.scripts
 
-pub of-2-requires : goal.of-2-requires
-of-2-requires c =
+pub of-requires-2 : goal.of-requires-2
+of-requires-2 c =
     ap (λ x. x.program) c.in_ok-code.ensures
     ∙ ap (λ ts. program_of ts c.table.result.now) c.names.ensures
     ∙ ap (program_of c.args.machine.now.names) c.table.ensures.table
