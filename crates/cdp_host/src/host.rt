@@ -285,7 +285,8 @@ impl<'p> Host<'p> {
     ///
     /// # Errors
     ///
-    /// The host is broken, or there is no memory for the session. Nothing has changed.
+    /// The host is broken, there is no memory for the session, or too many sessions share the code. Then nothing has
+    /// changed.
     pub fn attach(&mut self) -> Result<u64, AllocError>
         ensures number { IfOk result (λ s. s ≡ length self.old.meaning.seats + 1) }
         ensures leaves { OnOk result (Leaves self.old Attach self.new) }
