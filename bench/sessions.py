@@ -8,8 +8,9 @@ debugger enabled and 100 breakpoints, and with 16 such sessions. The breakpoints
 conditions and once with them. Each figure is the least processor time of N runs (user and system, in seconds), less the same
 replay without the run. Wanted: 16 sessions take at most twice what one takes.
 
-*Attached* are 64 sessions that do nothing, to a script of some 213,000 units: their seconds and their memory in MiB,
-less those of the script without a session.
+*Attached* are sessions that do nothing, to a script of some 213,000 units: their seconds and their memory in MiB, less those
+of the script without a session. *Evaluating* are sessions of that script which each evaluate once, beside the same without
+a session.
 """
 
 import argparse
@@ -108,14 +109,20 @@ def loop(program, folder, sessions, lines, condition, times):
     return whole - before, before, steps
 
 
-def attached(program, folder, sessions, times):
-    """The units of a script, and the seconds and the memory of so many sessions of it that do nothing."""
+def evaluation(session):
+    """The line that tells a session to evaluate, and that takes the answer."""
+    command = {"id": 1, "method": "Runtime.evaluate", "params": {"expression": "0"}}
+    return "tell %d %s\ntake %d\n" % (session, json.dumps(command), session)
+
+
+def sessions_of_many_units(program, folder, journal, times):
+    """The units of a script, and the seconds and the memory that a journal takes beside none."""
     text = large_script(213000)
     write(folder, "a.js", text)
     words = ["replay", "journal", "a.js"]
     write(folder, "journal", "")
     none = least(program, words, folder, times)
-    write(folder, "journal", "attach\n" * sessions)
+    write(folder, "journal", journal)
     some = least(program, words, folder, times)
     return len(text), some.processor - none.processor, some.memory - none.memory
 
@@ -140,8 +147,11 @@ def main():
                 % (words, one, many, MANY, many / one, before)
             )
         for sessions in 1, 64:
-            units, spent, memory = attached(program, folder, sessions, asked.times)
-            print("attached: %d sessions to %d units in %.3f s and %.1f MiB" % (sessions, units, spent, memory))
+            attached = "attach\n" * sessions
+            evaluating = attached + "".join(evaluation(session) for session in range(1, sessions + 1))
+            for word, journal in ("attached", attached), ("evaluating", evaluating):
+                figures = sessions_of_many_units(program, folder, journal, asked.times)
+                print("%s: %d sessions, %d units, %.3f s, %.1f MiB" % (word, sessions, *figures))
 
 
 if __name__ == "__main__":
