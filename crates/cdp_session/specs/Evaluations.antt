@@ -10,6 +10,7 @@ use Rattle.js_heap.specs.declared.change.Counted.TheVariants as counted
 use Rattle.js_heap.specs.BuiltIns.{script_scope}
 use Rattle.js_heap.specs.ScratchSpaces.{ScratchSpace, copied_world}
 use Rattle.js_heap.specs.World.{World, scratch_room}
+use Rattle.js_tree.specs.declared.script.Script.{Script}
 use Rattle.js_tree.specs.Trees.{Expression}
 use Rattle.js_semantics.specs.Evaluation.{Answer, a_result, a_throw, an_effect, is_full_of, spent, evaluate}
 use Rattle.js_semantics.specs.Literals.{expression_literals}
@@ -18,7 +19,7 @@ use Rattle.js_parser_numbering.specs.Numbered.{numbered_made}
 use Rattle.js_heap_memory.specs.Overlays.{Over, over_world, space_after}
 use Rattle.js_parser.specs.Expressions.{expression_of}
 use Rattle.js_parser.specs.NodeTexts.{node_text}
-use Rattle.pure_eval.specs.Workspaces.{with_evaluated}
+use Rattle.pure_eval.specs.Workspaces.{OpenWorkspace, with_evaluated}
 use Rattle.frames_scopes_types.specs.Frames.{ShownFrame, ShownScope}
 use Rattle.object_groups.specs.Handles as handles
 use Rattle.object_groups.specs.Handles.{fault_of}
@@ -105,6 +106,15 @@ described s x how v w = described_as (sight_with s x (space_after w)) how v x.ha
 -- whether a description that is asked for so makes a handle on a cell of the session's
 abbrev pub keeps : Showing → Value → handles.HeldHandles → Bool
 keeps how v h = not how.by_value && holds_on v h
+
+-- the session behind an evaluation to this value over what was opened, but for its handles
+abbrev pub left_by : OpenWorkspace → Showing → Value → Session → Session
+left_by o how v x = with_workspace (if keeps how v x.handles then o.behind else o.before) x
+
+-- a value to which an evaluation over what was opened came, as it is described
+abbrev pub described_in : List Script → OpenWorkspace → Showing → Value → Session → Option (Made Json)
+described_in scripts o how v x =
+    described_as (views.sight_of node_text (copied_world o.world o.behind.scratch) scripts x.number) how v x.handles
 
 -- the session behind an evaluation to this value, but for its handles
 abbrev pub behind_value : Session → Showing → Source → Value → World → Session

@@ -327,11 +327,8 @@ impl Session<'_> {
         opened: OpenWorkspace<'_>,
     ) -> Result<Done, Fault>
         ensures made { Makes result self.new (row_of (evaluations.answered_by exceptions.value_result
-            evaluations.as_it_is (with_workspace (if evaluations.keeps showing.now value self.old.handles
-            then opened.entry.workspace.behind else opened.entry.workspace.before) self.old)
-            (evaluations.described_as (sight_of node_text
-            (copied_world opened.entry.workspace.world opened.entry.workspace.behind.scratch) scripts.now
-            self.old.number) showing.now value self.old.handles))) }
+            evaluations.as_it_is (evaluations.left_by opened.entry.workspace showing.now value self.old)
+            (evaluations.described_in scripts.now opened.entry.workspace showing.now value self.old))) }
         ensures kept { KeepsIfRefused result (with_workspace opened.entry.workspace.before self.old) self.new }
     {
         let described = self.describe(scripts, value, showing, opened)?;
@@ -349,11 +346,8 @@ impl Session<'_> {
     ) -> Result<Done, Fault>
         ensures made { Makes result self.new (row_of (evaluations.answered_by
             (exceptions.thrown_result (with_exception self.old).exceptions) with_exception
-            (with_workspace (if evaluations.keeps showing.now value self.old.handles
-            then opened.entry.workspace.behind else opened.entry.workspace.before) self.old)
-            (evaluations.described_as (sight_of node_text
-            (copied_world opened.entry.workspace.world opened.entry.workspace.behind.scratch) scripts.now
-            self.old.number) showing.now value self.old.handles))) }
+            (evaluations.left_by opened.entry.workspace showing.now value self.old)
+            (evaluations.described_in scripts.now opened.entry.workspace showing.now value self.old))) }
         ensures kept { KeepsIfRefused result (with_workspace opened.entry.workspace.before self.old) self.new }
     {
         let described = self.describe(scripts, value, showing, opened)?;
@@ -372,11 +366,8 @@ impl Session<'_> {
         opened: OpenWorkspace<'_>,
     ) -> Result<String, Fault>
         ensures described { Describes result self.new
-            (with_workspace (if evaluations.keeps showing.now value self.old.handles
-            then opened.entry.workspace.behind else opened.entry.workspace.before) self.old)
-            (evaluations.described_as (sight_of node_text
-            (copied_world opened.entry.workspace.world opened.entry.workspace.behind.scratch) scripts.now
-            self.old.number) showing.now value self.old.handles) }
+            (evaluations.left_by opened.entry.workspace showing.now value self.old)
+            (evaluations.described_in scripts.now opened.entry.workspace showing.now value self.old) }
         ensures kept { KeepsIfRefused result (with_workspace opened.entry.workspace.before self.old) self.new }
     {
         if showing.by_value {

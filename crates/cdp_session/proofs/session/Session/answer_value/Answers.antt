@@ -1,11 +1,7 @@
-use Rattle.std.proofs.Common.{if◌then◌else◌, string_bytes, ap, ◌∙◌}
-use Rattle.js_heap.specs.ScratchSpaces.{copied_world}
-use Rattle.js_parser.specs.NodeTexts.{node_text}
-use Rattle.remote_objects.specs.Views.{sight_of}
+use Rattle.std.proofs.Common.{string_bytes, ap, ◌∙◌}
 use Rattle.cdp_session_messages.specs.Exceptions.{value_result}
-use Rattle.cdp_session.specs.Evaluations.{as_it_is, described_as, keeps}
+use Rattle.cdp_session.specs.Evaluations.{as_it_is, described_in, left_by}
 use Rattle.cdp_session.specs.ResultTexts.{value_text}
-use Rattle.cdp_session.specs.Sessions.{with_workspace}
 use Rattle.cdp_session.proofs.ResultTextLemmas.{text-answered, value-spelt}
 use Rattle.cdp_session.proofs.session.Session.answer_value.Goals as goal
 
@@ -15,9 +11,8 @@ returns-clause-made c =
     let o = c.args.opened.workspace in
     let how = c.args.showing.now in
     let v = c.args.value in
-    let behind = with_workspace (if keeps how v x.handles then o.behind else o.before) x in
-    let sight = sight_of node_text (copied_world o.world o.behind.scratch) c.args.scripts.now x.number in
-    text-answered value_result value_text as_it_is behind c.describe.new.self (described_as sight how v x.handles)
+    text-answered value_result value_text as_it_is (left_by o how v x) c.describe.new.self
+    (described_in c.args.scripts.now o how v x)
     (string_bytes c.in_ok-described.described) c.answering_text.result value-spelt
     c.in_ok-described.ensures.described.0 c.in_ok-described.ensures.described.1 c.answering_text.ensures.before
     (c.answering_text.ensures.answer ∙ (c.in_ok-answer.ensures ∙ ap value_text c.as_str.ensures.value))
