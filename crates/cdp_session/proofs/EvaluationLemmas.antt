@@ -1,5 +1,7 @@
 -- What an evaluation over an opened workspace leaves, in the words of the session that opened it.
-use Rattle.std.proofs.Common.{◌≡◌, List, ℕ, false, refl, ap, sym, subst, ◌∙◌, Some, None, Result, Err}
+use Rattle.std.proofs.Common.{◌≡◌, List, ℕ, false, refl, ap, sym, subst, ◌∙◌, Option, Some, None, Result, Ok, Err, IsErrAnd}
+use Rattle.std.specs.declared.alloc.Global.{Global}
+use Rattle.std.specs.declared.string.String.{String}
 use Rattle.js_heap.specs.World.{World}
 use Rattle.js_heap.specs.declared.value.Addr.{Addr}
 use Rattle.js_heap.specs.declared.value.Value.{Value}
@@ -19,12 +21,14 @@ use Rattle.js_semantics.specs.Makers.{MadeExpression as Source}
 use Rattle.pure_eval.specs.declared.evaluated.Evaluated.{Evaluated}
 use Rattle.pure_eval.specs.declared.evaluated.Evaluated.TheVariants as ends
 use Rattle.pure_eval.specs.Workspaces.{OpenWorkspace, Workspace, opened, EvaluatesTo}
+use Rattle.cdp_json.specs.Json.{Json}
+use Rattle.remote_objects.specs.Making.{Made}
 use Rattle.cdp_session.specs.declared.done.Done.{Done as Held}
 use Rattle.cdp_session.specs.declared.done.Fault.{Fault}
 use Rattle.cdp_session.specs.declared.showing.Showing.{Showing}
 use Rattle.cdp_session.specs.Evaluations.{Evaluates, no_expression, outcome_of_answer, outcome_of_tree}
 use Rattle.pure_eval.specs.Answering.{is_memory}
-use Rattle.cdp_session.specs.Made.{KeepsIfRefused, Makes}
+use Rattle.cdp_session.specs.Made.{Describes, KeepsIfRefused, Makes}
 use Rattle.cdp_session.specs.Rows.{row_of}
 use Rattle.cdp_session.specs.Sessions.{Session, no_workspace, with_workspace}
 use Rattle.cdp_session.specs.Situations.{Situation}
@@ -102,6 +106,22 @@ evaluated-from w x scope receiver ex at p end o n is place ready says =
     (expression_source ex.tree) end o n)
     is
     (says ex (subst (λ b. IsPrepared b ex p) place ready))
+
+-- ---- want of memory, of which nothing is said
+
+pub keeps-nothing : {A S : Type 0} (r : Result A Fault) (old new : S)
+    → IsErrAnd r (λ f. f ≡ faults.Memory)
+    → KeepsIfRefused r old new
+keeps-nothing (Ok a) old new is = absurd is
+keeps-nothing (Err (faults.Refused q)) old new is = absurd cc
+keeps-nothing (Err faults.Memory) old new is = tt
+
+pub describes-nothing : (r : Result (String Global) Fault) (new x : Session) (o : Option (Made Json))
+    → IsErrAnd r (λ f. f ≡ faults.Memory)
+    → Describes r new x o
+describes-nothing (Ok text) new x o is = absurd is
+describes-nothing (Err (faults.Refused q)) new x o is = absurd cc
+describes-nothing (Err faults.Memory) new x o is = tt
 
 -- ---- texts
 
