@@ -1,19 +1,22 @@
 -- What one seat among others is, and what a resume does to each.
-use Rattle.std.proofs.Common.{◌≡◌, ◌<◌, ℕ, zero, suc, List, [], ◌∷◌, length, slice_index_or, Bool, true, if◌then◌else◌, ap, sym, ◌∙◌, arith}
+use Rattle.std.proofs.Common.{◌≡◌, ◌<◌, ℕ, zero, suc, List, [], ◌∷◌, length, slice_index_or, Bool, true, false, if◌then◌else◌, refl, ap, sym, ◌∙◌, arith}
 use Rattle.cdp_host_isolation.specs.Protocols.{Protocol}
 use Rattle.cdp_host_isolation.specs.Meanings.{kept}
 use Rattle.cdp_host_isolation.specs.Passes.{GoesAlong, GoesOn, HearsOn, Over, Watches}
 use Rattle.cdp_host_isolation.specs.Runs.{AllFit}
-use Rattle.cdp_host_isolation.specs.Seats.{lost_by}
+use Rattle.cdp_host_isolation.specs.Seats.{fallen, lost_by}
 use Rattle.cdp_host_isolation.specs.Texts.{Fits}
 use Rattle.cdp_host_isolation.specs.declared.seat.Loss.TheVariants.{Overrun}
 use Rattle.cdp_host_isolation.specs.declared.seat.Seat.{Seat}
 use Rattle.cdp_host_isolation.specs.declared.seat.Seat.TheVariants.{Attached}
 use Rattle.cdp_session_messages.specs.Outboxes.{fits}
+use Rattle.cdp_session_messages.specs.declared.session_end.SessionEnd.{SessionEnd}
+use Rattle.cdp_session_messages.specs.declared.session_end.SessionEnd.TheVariants as ends
 use Rattle.cdp_session.specs.Sessions.{Session}
 use Rattle.cdp_session.specs.Stops.{resumed}
 use Rattle.js_tree.specs.declared.script.Script.{Script}
 use Rattle.cdp_host.specs.Protocols.{protocol}
+use Rattle.cdp_host.specs.Watching.{loss_of}
 
 -- ---- one of all seats
 
@@ -54,6 +57,20 @@ pub hears-told : (scripts : List Script) (x y : Session) → y ≡ resumed x →
 hears-told scripts x y is fit = record {
   is = ap (λ z. Attached z) is ∙ kept-fits (protocol scripts) (resumed x) fit;
   room = ap (λ z. fits z.outbox) is ∙ fit;
+}
+
+-- a session that couldn't be told
+pub hears-lost : (scripts : List Script) (x : Session) (end : SessionEnd)
+    → (end ≡ ends.Overrun → fits (resumed x).outbox ≡ false)
+    → (end ≡ ends.Memory → fits (resumed x).outbox ≡ true)
+    → HearsOn (protocol scripts) (Attached x) (lost_by (loss_of end))
+hears-lost scripts x ends.Overrun over memory = record {
+  is = ap (λ b. if b then Attached (resumed x) else lost_by Overrun) (sym (over refl));
+  room = tt;
+}
+hears-lost scripts x ends.Memory over memory = record {
+  is = ap (λ b. fallen (if b then Attached (resumed x) else lost_by Overrun)) (sym (memory refl));
+  room = tt;
 }
 
 -- ---- room

@@ -1,4 +1,4 @@
-use Rattle.std.proofs.Common.{◌+◌, ℕ, length, Result, Ok, Err, OnErr, ap, subst, sym, ◌∙◌}
+use Rattle.std.proofs.Common.{◌+◌, ℕ, length, Result, Ok, Err, IsErr, OnErr, OnOk, ap, subst, sym, ◌∙◌}
 use Rattle.cdp_host_isolation.specs.Histories.{Attach}
 use Rattle.pure_eval.specs.Workspaces.{Workspace, begun}
 use Rattle.cdp_session.specs.Code.{code_of}
@@ -13,6 +13,18 @@ use Rattle.cdp_host.proofs.host.Host.attach.Goals as goal
 on-err : {T E : Type 0} (r : Result T E) (P : Type 0) → P → OnErr r P
 on-err (Ok value) P p = tt
 on-err (Err fault) P p = p
+
+on-ok : {T E : Type 0} (r : Result T E) (P : Type 0) → IsErr r → OnOk r P
+on-ok (Ok value) P fails = absurd cc
+on-ok (Err fault) P fails = tt
+
+pub returns-in_err-reserve-clause-leaves : goal.returns-in_err-reserve-clause-leaves
+returns-in_err-reserve-clause-leaves c =
+    on-ok c.from_residual-in_err-reserve.result _ c.from_residual-in_err-reserve.ensures.0
+
+pub returns-in_err-reserve-clause-stands : goal.returns-in_err-reserve-clause-stands
+returns-in_err-reserve-clause-stands c =
+    on-ok c.from_residual-in_err-reserve.result _ c.from_residual-in_err-reserve.ensures.0
 
 pub returns-in_err-reserve-clause-err : goal.returns-in_err-reserve-clause-err
 returns-in_err-reserve-clause-err c =
