@@ -30,6 +30,7 @@ mod prepared;
 mod reducing;
 mod scripts_code;
 mod session;
+mod session_code;
 mod work;
 mod workspace;
 

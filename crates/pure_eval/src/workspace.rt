@@ -16,19 +16,17 @@ ghost use Rattle.pure_eval.specs.Arguments.{arguments_of};
 ghost use Rattle.pure_eval.specs.Calling.{work_of};
 ghost use Rattle.pure_eval.specs.Holding.{AreOf, AreOfChoice, HoldsToo, source_for};
 ghost use Rattle.pure_eval.specs.Preparing.{IsReady, IsPrepared, IsPreparedFunction};
-ghost use Rattle.pure_eval.specs.Returning.{IsCodeOf};
 ghost use Rattle.pure_eval.specs.Working.{IsKnown};
 ghost use Rattle.pure_eval.specs.Workspaces.{begun, emptied_workspace, opened, EvaluatesTo};
 
 use crate::arguments::Argument;
 use crate::evaluated::{Evaluated, is_memory};
-use crate::evaluator::{Evaluator, EvaluatorMark};
-use crate::holding::{
-    CodeChoice, HeldCodes, MOST_HELD, chosen_entry, count_held, hold_code, place_held,
-};
+use crate::evaluator::EvaluatorMark;
+use crate::holding::{CodeChoice, MOST_HELD, chosen_entry, count_held, hold_code, place_held};
 use crate::prepared::PreparedSource;
 use crate::scripts_code::ScriptsCode;
 use crate::session::Outcome;
+use crate::session_code::SessionCode;
 use crate::work::Work;
 use js_heap::value::{Addr, Value};
 use js_heap_memory::heap::BaseHeap;
@@ -36,7 +34,6 @@ use js_heap_memory::names::NameTable;
 use js_heap_memory::overlay::{Overlay, OverlayMark, Scratch};
 use js_heap_memory::world::World;
 use js_machine_engine::rows::Rows;
-use js_machine_nodes::table::NodeTable;
 use std::alloc::{AllocError, Global};
 use std::marker::Model;
 
@@ -44,13 +41,8 @@ use std::marker::Model;
 /// which it began, and the sources of which the code is held.
 #[derive(Drop)]
 pub struct Workspace {
-    evaluator: Evaluator,
+    code: Box<SessionCode>,
     scratch: Scratch,
-    // how many of the sources are scripts, and where their code and their names end
-    scripts: usize,
-    start: EvaluatorMark,
-    // code that no source has, behind all others
-    held: Option<HeldCodes>,
 }
 
 impl Model for Workspace {
@@ -63,9 +55,11 @@ impl Model for Workspace {
 
     ghost coded = { Prim.hlevel (codes, term_coded) };
 
-    ghost view = { λ w. kept.held_of w.evaluator w.scripts w.start w.held w.scratch };
+    ghost view = { λ w. kept.held_of w.code.value.evaluator w.code.value.scripts w.code.value.start w.code.value.held
+        w.scratch };
 
-    ghost invariant = { λ w. IsHeld w.evaluator w.scripts w.start w.held };
+    ghost invariant = { λ w. IsHeld w.code.value.evaluator w.code.value.scripts w.code.value.start
+        w.code.value.held };
 }
 
 /// The cells of a program with those of a session, and the names of both.
@@ -80,13 +74,10 @@ pub struct OverlaidCells<'o, 'b> {
 /// A workspace that is open over the cells of a program.
 #[derive(Drop)]
 pub struct OpenWorkspace<'b> {
-    evaluator: Evaluator,
+    // the code that is held stands behind all other that there was when it was opened
+    code: Box<SessionCode>,
     base: &'b BaseHeap,
     world: Overlay<'b>,
-    scripts: usize,
-    start: EvaluatorMark,
-    // code that no source has, behind all others that there were when it was opened
-    held: Option<HeldCodes>,
     // where the code, and how many cells there were, when it was opened
     mark: EvaluatorMark,
     cells: OverlayMark,
@@ -105,11 +96,11 @@ impl<'b> Model for OpenWorkspace<'b> {
 
     ghost coded = { Prim.hlevel (codes, term_coded) };
 
-    ghost view = { λ o. kept.held_open_of o.evaluator o.scripts o.start o.held o.mark o.base.now o.world
-        o.cells };
+    ghost view = { λ o. kept.held_open_of o.code.value.evaluator o.code.value.scripts o.code.value.start
+        o.code.value.held o.mark o.base.now o.world o.cells };
 
-    ghost invariant = { λ o. IsOpen o.evaluator o.scripts o.start o.mark o.base.now o.world o.cells o.count o.next
-        o.held };
+    ghost invariant = { λ o. IsOpen o.code.value.evaluator o.code.value.scripts o.code.value.start o.mark o.base.now
+        o.world o.cells o.count o.next o.code.value.held };
 }
 
 /// Whether a program's names are all that its cells need, and the first of those with which a workspace began: of so
@@ -138,43 +129,6 @@ fn number_of(at: Addr) -> u32
     }
 }
 
-/// The evaluator of no sources. It takes no memory.
-#[tactic(auto, using(crate::proofs::EmptyLemmas::empty_code))]
-fn no_sources(alloc: Global) -> Evaluator
-    ensures { IsCodeOf result [] }
-{
-    Evaluator {
-        names: NameTable::new(alloc),
-        table: NodeTable::new(alloc),
-        next: 0,
-        call: 0,
-    }
-}
-
-/// No sources and no cells, open over the cells of a program. It takes no memory.
-fn given_up<'b>(alloc: Global, base: &'b BaseHeap) -> OpenWorkspace<'b> {
-    let evaluator = no_sources(alloc);
-    let scratch = Scratch::new(alloc);
-    let start = evaluator.mark();
-    let mark = evaluator.mark();
-    let cells = scratch.mark();
-    let next = scratch.next_address();
-    let count = number_of(next);
-    let world = Overlay::over(base, scratch);
-    OpenWorkspace {
-        evaluator,
-        base,
-        world,
-        scripts: start.table.sources,
-        start,
-        held: None,
-        mark,
-        cells,
-        count,
-        next,
-    }
-}
-
 impl Workspace {
     /// What the evaluations of a session begin with: the code of a program's scripts, with the names with which it
     /// begins.
@@ -188,15 +142,9 @@ impl Workspace {
         ensures held { IfOk result (λ w. w.held ≡ []) }
     {
         let evaluator = code.evaluator()?;
-        let start = evaluator.mark();
+        let code = Box::new(alloc, SessionCode::begun(evaluator))?;
         let scratch = Scratch::new(alloc);
-        Ok(Workspace {
-            evaluator,
-            scratch,
-            scripts: start.table.sources,
-            start,
-            held: None,
-        })
+        Ok(Workspace { code, scratch })
     }
 
     /// Gives up all that evaluations made and kept. It takes no memory.
@@ -205,12 +153,12 @@ impl Workspace {
         ensures names { self.new.names ≡ self.old.names }
         ensures held { self.new.held ≡ [] }
     {
-        let alloc = self.evaluator.table.sources.allocator();
-        let start = self.start;
-        let scratch = Scratch::new(alloc);
-        self.evaluator.cut(start);
+        let code = &mut *self.code;
+        let start = code.start;
+        let scratch = Scratch::new(code.evaluator.table.sources.allocator());
+        code.evaluator.cut(start);
+        code.held = None;
         self.scratch = scratch;
-        self.held = None;
     }
 
     /// Gives up the code that is held. It takes no memory.
@@ -219,10 +167,11 @@ impl Workspace {
         ensures names { self.new.names ≡ self.old.names }
         ensures held { self.new.held ≡ [] }
     {
-        let Some(held) = self.held.take() else {
+        let code = &mut *self.code;
+        let Some(held) = code.held.take() else {
             return;
         };
-        self.evaluator.cut(held.mark);
+        code.evaluator.cut(held.mark);
     }
 
     /// The address at which the source of the next evaluation would be kept.
@@ -238,7 +187,7 @@ impl Workspace {
         ensures names { result.names ≡ self.names }
         ensures held { (result.held ≡ self.held) ⊎ (result.held ≡ []) }
     {
-        if count_held(&self.held) < MOST_HELD {
+        if count_held(&self.code.held) < MOST_HELD {
             return self;
         }
         let mut workspace = self;
@@ -253,28 +202,19 @@ impl Workspace {
         ensures held { IfOk result (λ w.
             w.held ≡ self.held ++ source_for (next_kept self.workspace.scratch) prepared.now ∷ []) }
     {
-        let Workspace {
-            evaluator,
-            scratch,
-            scripts,
-            start,
-            held,
-        } = self;
+        let Workspace { code, scratch } = self;
+        let mut code = code;
+        let there = &mut *code;
         // this doesn't come up; that it doesn't is tested here rather than carried on
-        if scratch.known() > evaluator.names.len() {
+        if scratch.known() > there.evaluator.names.len() {
             return Err(AllocError);
         }
         scratch.goes_on();
         let at = scratch.next_address();
-        let mut evaluator = evaluator;
-        let codes = hold_code(alloc, &mut evaluator, held, at, prepared)?;
-        Ok(Workspace {
-            evaluator,
-            scratch,
-            scripts,
-            start,
-            held: Some(codes),
-        })
+        let held = there.held.take();
+        let codes = hold_code(alloc, &mut there.evaluator, held, at, prepared)?;
+        there.held = Some(codes);
+        Ok(Workspace { code, scratch })
     }
 
     /// Holds the code of a source which was prepared for the next address, so that evaluations of its text there need not
@@ -290,7 +230,7 @@ impl Workspace {
             HoldsToo (source_for (next_kept self.workspace.scratch) prepared.now) self.held w.held) }
     {
         let at = self.next_address();
-        if place_held(&self.held, at, &prepared.source).is_some() {
+        if place_held(&self.code.held, at, &prepared.source).is_some() {
             return Ok(self);
         }
         self.with_room().hold_more(alloc, prepared)
@@ -302,7 +242,8 @@ impl Workspace {
         ensures known { result ≡ true → IsKnown base.now names.now self.now.names }
         ensures only { IsKnown base.now names.now self.now.names → result ≡ true }
     {
-        is_known(base, names, &self.evaluator.names, self.start.names)
+        let code = &*self.code;
+        is_known(base, names, &code.evaluator.names, code.start.names)
     }
 
     /// Opens it over the cells of a program, seen with the names of that program where it has them. No name is compared.
@@ -314,25 +255,17 @@ impl Workspace {
         ensures held { result.held ≡ self.held }
     {
         base.goes_on();
-        let Workspace {
-            evaluator,
-            scratch,
-            scripts,
-            start,
-            held,
-        } = self;
-        let mark = evaluator.mark();
+        let Workspace { code, scratch } = self;
+        let there = &*code;
+        let mark = there.evaluator.mark();
         let cells = scratch.mark();
         let next = scratch.next_address();
         let count = number_of(next);
         let world = Overlay::over(base, scratch);
         OpenWorkspace {
-            evaluator,
+            code,
             base,
             world,
-            scripts,
-            start,
-            held,
             mark,
             cells,
             count,
@@ -367,26 +300,33 @@ impl<'b> OpenWorkspace<'b> {
         ensures held { is_memory result ≡ false → self.new.held ≡ self.old.held }
     {
         let base = self.base;
+        let code = &mut *self.code;
         // neither of these comes up in a workspace that was opened; that they don't is tested here rather than carried on
-        if base.known() > self.evaluator.names.len() {
+        if base.known() > code.evaluator.names.len() {
             return Evaluated::Memory;
         }
         if number_of(self.next) < self.count {
             return Evaluated::Memory;
         }
-        let Ok(entry) = chosen_entry(choice, &self.held, self.next, &prepared.source) else {
+        let Ok(entry) = chosen_entry(choice, &code.held, self.next, &prepared.source) else {
             return Evaluated::Memory;
         };
         base.goes_on();
         let empty = Overlay::over(base, Scratch::new(alloc));
         let world = std::mem::replace(&mut self.world, empty);
         let scratch = world.into_scratch();
-        let outcome = self
+        let outcome = code
             .evaluator
             .evaluate_ready::<T>(alloc, base, scratch, work, prepared, entry);
         if is_memory(outcome.end) {
             // nothing is known of the code that is left
-            *self = given_up(alloc, base);
+            let none = Scratch::new(alloc);
+            code.give_up(alloc);
+            self.mark = code.evaluator.mark();
+            self.cells = none.mark();
+            self.next = none.next_address();
+            self.count = number_of(self.next);
+            self.world = Overlay::over(base, none);
             return Evaluated::Memory;
         }
         let Outcome { end, scratch } = outcome;
@@ -482,7 +422,7 @@ impl<'b> OpenWorkspace<'b> {
     {
         OverlaidCells {
             world: &self.world,
-            names: &self.evaluator.names,
+            names: &self.code.evaluator.names,
         }
     }
 
@@ -492,32 +432,11 @@ impl<'b> OpenWorkspace<'b> {
         ensures names { result.names ≡ self.entry.names }
         ensures held { result.held ≡ [] }
     {
-        let OpenWorkspace {
-            evaluator,
-            base,
-            world,
-            scripts,
-            start,
-            held,
-            mark,
-            cells,
-            count,
-            next,
-        } = self;
-        let _ = base;
-        let _ = held;
-        let _ = mark;
-        let _ = cells;
-        let _ = count;
-        let _ = next;
+        let OpenWorkspace { code, world, .. } = self;
+        let mut code = code;
+        code.held = None;
         let scratch = world.into_scratch();
-        Workspace {
-            evaluator,
-            scratch,
-            scripts,
-            start,
-            held: None,
-        }
+        Workspace { code, scratch }
     }
 
     /// The workspace as it was opened. It takes no memory.
@@ -527,30 +446,17 @@ impl<'b> OpenWorkspace<'b> {
         ensures held { result.held ≡ self.entry.held }
     {
         let OpenWorkspace {
-            evaluator,
-            base,
+            code,
             world,
-            scripts,
-            start,
-            held,
             mark,
             cells,
-            count,
-            next,
+            ..
         } = self;
-        let _ = base;
-        let _ = count;
-        let _ = next;
-        let mut evaluator = evaluator;
-        evaluator.cut(mark);
+        let mut code = code;
+        let there = &mut *code;
+        there.evaluator.cut(mark);
         let mut scratch = world.into_scratch();
         scratch.cut(cells);
-        Workspace {
-            evaluator,
-            scratch,
-            scripts,
-            start,
-            held,
-        }
+        Workspace { code, scratch }
     }
 }

@@ -7,5 +7,5 @@ use Rattle.pure_eval.proofs.workspace.Workspace.next_address.Goals as goal
 pub returns : goal.returns
 returns c =
     c.next_address.ensures
-    ∙ sym (next-same c.self.inside.evaluator.names c.self.inside.scratch)
+    ∙ sym (next-same c.self.inside.code.value.evaluator.names c.self.inside.scratch)
     ∙ ap (λ (h : HeldWorkspace). next_kept h.workspace.scratch) c.self.view_is

@@ -1,6 +1,8 @@
 use Rattle.std.proofs.Common.{List, ℕ, sym, ap, subst, ◌∙◌}
 use Rattle.js_heap_memory.specs.Heaps.{heap_world}
+use Rattle.pure_eval.specs.declared.session_code.SessionCode.{SessionCode}
 use Rattle.pure_eval.specs.Held.{HeldWorkspace}
+use Rattle.pure_eval.specs.Returning.{IsMarked}
 use Rattle.pure_eval.specs.Working.{IsKnown}
 use Rattle.pure_eval.specs.Workspaces.{opened}
 use Rattle.pure_eval.proofs.KnownLemmas.{known-all}
@@ -10,18 +12,22 @@ use Rattle.pure_eval.proofs.workspace.Workspace.open.Goals as goal
 pub invariant_of-result : goal.invariant_of-result
 invariant_of-result c =
     let w = c.self.inside in
-    open-is w.evaluator w.scripts w.start c.mark-mark.result c.args.base.now w.scratch c.over-world.result
-    c.mark-cells.result c.number_of-count.result c.next_address-next.result w.held c.self.invariant
-    c.mark-mark.ensures.marked c.over-world.ensures.world c.over-world.ensures.known.0 c.mark-cells.ensures
+    let code = w.code.value in
+    let P : SessionCode → Type 0 = λ x. IsMarked x.evaluator c.mark-mark.result in
+    open-is code.evaluator code.scripts code.start c.mark-mark.result c.args.base.now w.scratch c.over-world.result
+    c.mark-cells.result c.number_of-count.result c.next_address-next.result code.held c.self.invariant
+    (subst P c.deref-there.ensures c.mark-mark.ensures.marked) c.over-world.ensures.world c.over-world.ensures.known.0 c.mark-cells.ensures
     c.next_address-next.ensures c.number_of-count.ensures
 
 pub returns-clause-opened : goal.returns-clause-opened
 returns-clause-opened c = λ names known.
     let w = c.self.inside in
+    let code = w.code.value in
     let P : List (List ℕ) → Type 0 = λ ns. IsKnown c.args.base.now names ns in
-    opened-is w.evaluator w.scripts c.mark-mark.result c.args.base.now w.scratch c.over-world.result c.mark-cells.result
-    names c.mark-mark.ensures.marked
-    (known-all c.args.base.now names w.evaluator.names w.start.names
+    let M : SessionCode → Type 0 = λ x. IsMarked x.evaluator c.mark-mark.result in
+    opened-is code.evaluator code.scripts c.mark-mark.result c.args.base.now w.scratch c.over-world.result c.mark-cells.result
+    names (subst M c.deref-there.ensures c.mark-mark.ensures.marked)
+    (known-all c.args.base.now names code.evaluator.names code.start.names
     (subst P (sym (ap (λ (h : HeldWorkspace). h.names) c.self.view_is)) known))
     c.goes_on.ensures c.over-world.ensures.world c.mark-cells.ensures
     ∙ ap (λ (h : HeldWorkspace). opened (heap_world names c.args.base.now) h.workspace) c.self.view_is
