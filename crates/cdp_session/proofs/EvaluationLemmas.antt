@@ -29,7 +29,7 @@ use Rattle.cdp_session.specs.declared.showing.Showing.{Showing}
 use Rattle.cdp_session.specs.Evaluations.{Evaluates, no_expression, outcome_of_answer, outcome_of_tree}
 use Rattle.pure_eval.specs.Answering.{is_memory}
 use Rattle.cdp_session.specs.Made.{Describes, KeepsIfRefused, Makes}
-use Rattle.cdp_session.specs.Rows.{row_of}
+use Rattle.cdp_session.specs.Rows.{Row, row_of}
 use Rattle.cdp_session.specs.Sessions.{Session, no_workspace, with_workspace}
 use Rattle.cdp_session.specs.Situations.{Situation}
 
@@ -122,6 +122,13 @@ pub describes-nothing : (r : Result (String Global) Fault) (new x : Session) (o 
 describes-nothing (Ok text) new x o is = absurd is
 describes-nothing (Err (faults.Refused q)) new x o is = absurd cc
 describes-nothing (Err faults.Memory) new x o is = tt
+
+pub makes-nothing : (r : Result Held Fault) (new : Session) (row : Row)
+    → IsErrAnd r (λ f. f ≡ faults.Memory)
+    → Makes r new row
+makes-nothing (Ok d) new row is = absurd is
+makes-nothing (Err (faults.Refused q)) new row is = absurd cc
+makes-nothing (Err faults.Memory) new row is = tt
 
 -- ---- texts
 

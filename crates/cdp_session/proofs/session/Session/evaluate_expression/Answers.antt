@@ -6,7 +6,7 @@ use Rattle.cdp_session.specs.Made.{Makes, KeepsIfRefused}
 use Rattle.cdp_session.specs.Rows.{row_of}
 use Rattle.cdp_session.specs.Sessions.{with_workspace}
 use Rattle.cdp_session.specs.Situations.{seen}
-use Rattle.cdp_session.proofs.EvaluationLemmas.{evaluated-from, made-answer, kept-answer}
+use Rattle.cdp_session.proofs.EvaluationLemmas.{evaluated-from, keeps-nothing, kept-answer, made-answer, makes-nothing}
 use Rattle.cdp_session.proofs.session.Session.evaluate_expression.Goals as goal
 
 pub returns-clause-made : goal.returns-clause-made
@@ -47,3 +47,11 @@ returns-clause-kept g c =
     (sym c.is_memory.ensures ∙ c.if-is_memory.false) to
     (subst (λ u. KeepsIfRefused c.answer_evaluation.result (with_workspace n.before u) c.answer_evaluation.new.self)
     c.in_ok-opened.ensures.rest c.answer_evaluation.ensures.kept)
+
+pub returns-in_err-prepared-clause-made : goal.returns-in_err-prepared-clause-made
+returns-in_err-prepared-clause-made g c =
+    makes-nothing c.from_residual-in_err-prepared.result _ _ c.from_residual-in_err-prepared.ensures.1
+
+pub returns-in_err-prepared-clause-kept : goal.returns-in_err-prepared-clause-kept
+returns-in_err-prepared-clause-kept g c =
+    keeps-nothing c.from_residual-in_err-prepared.result _ _ c.from_residual-in_err-prepared.ensures.1
