@@ -309,3 +309,11 @@ pub holds-too : (h : HeldSource) (old mid new : List HeldSource)
     → HoldsToo h old new
 holds-too h old mid new (inl same) e = inr (inl (e ∙ ap (λ hs. hs ++ h ∷ []) same))
 holds-too h old mid new (inr none) e = inr (inr (e ∙ ap (λ hs. hs ++ h ∷ []) none))
+
+-- held sources that were kept or given up, of what is now called otherwise
+pub kept-or-none : {new old same : List HeldSource}
+    → (new ≡ old) ⊎ (new ≡ [])
+    → old ≡ same
+    → (new ≡ same) ⊎ (new ≡ [])
+kept-or-none (inl kept) e = inl (kept ∙ e)
+kept-or-none (inr none) e = inr none

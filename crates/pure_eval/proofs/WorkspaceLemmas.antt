@@ -180,18 +180,33 @@ working-again first new n m w a = record {
   count = w.count;
 }
 
-pub emptied-is : (old new : Evaluator) (n : ℕ) (m : EvaluatorMark) (h k : Heap)
+-- where an evaluator has no other sources than the first so many
+pub none-behind : (e : Evaluator) (n : ℕ)
+    → length e.table.sources.items ≡ n
+    → program_of e.names e.table ≡ take n (program_of e.names e.table)
+none-behind e n f =
+    let p : Program = program_of e.names e.table in
+    sym
+    (ap (λ k. take k p) (sym f ∙ sym (program-length e.names e.table e.table.sources.items)) ∙ take-length p)
+
+-- where it was cut to where it began
+pub cut-to-first : (old new : Evaluator) (n : ℕ) (m : EvaluatorMark)
     → IsWorking old n m
     → ((e : Evaluator) → IsWhole e.table → IsMarked e m → WentOn e old → IsAgain e new)
-    → space_of new.names k ≡ first_space
-    → workspace_of new n k ≡ emptied_workspace (workspace_of old n h)
-emptied-is old new n m h k w cut f =
+    → program_of new.names new.table ≡ take n (program_of old.names old.table)
+cut-to-first old new n m w cut =
     let a : IsAgain w.first new = cut w.first w.first_code.runs.whole w.marked w.goes_on in
-    made_same (program_of new.names new.table) (take n (program_of old.names old.table)) n n (space_of new.names k)
+    (code-again w.first new w.first_code a).program
+    ∙ sym (program-first w.first old n w.first_code w.goes_on (sym w.count))
+
+pub emptied-is : (old new : Evaluator) (n k : ℕ) (h s : Heap)
+    → program_of new.names new.table ≡ take n (program_of old.names old.table)
+    → k ≡ n
+    → space_of new.names s ≡ first_space
+    → workspace_of new k s ≡ emptied_workspace (workspace_of old n h)
+emptied-is old new n k h s =
+    made_same (program_of new.names new.table) (take n (program_of old.names old.table)) k n (space_of new.names s)
     first_space
-    ((code-again w.first new w.first_code a).program
-    ∙ sym (program-first w.first old n w.first_code w.goes_on (sym w.count)))
-    refl f
 
 pub emptied-working : (old new : Evaluator) (n : ℕ) (m : EvaluatorMark)
     → IsWorking old n m

@@ -1,7 +1,10 @@
 //! The code that a session's evaluations run.
 
-ghost use Rattle.std.specs.Prelude.{◌≡◌, [], length};
+ghost use Rattle.std.specs.Prelude.{◌≡◌, ◌⊎◌, [], length, take};
 ghost use Rattle.std.specs.Prelude.Option.{None};
+ghost use Rattle.js_machine_nodes.specs.Trees.{program_of};
+ghost use Rattle.pure_eval.specs.Held.{marked_names};
+ghost use Rattle.pure_eval.specs.Holding.{sources_held};
 ghost use Rattle.pure_eval.specs.Returning.{IsCode, IsCodeOf, IsMarked};
 ghost use Rattle.pure_eval.specs.Working.{IsHeld};
 
@@ -40,6 +43,28 @@ impl SessionCode {
             start,
             held: None,
         }
+    }
+
+    /// Gives up the sources that evaluations kept. Code that is held stays where there are none, and is given up otherwise.
+    /// It takes no memory.
+    pub fn forget_kept(&mut self)
+        requires { IsHeld self.old.evaluator self.old.scripts self.old.start self.old.held }
+        ensures holds { IsHeld self.new.evaluator self.new.scripts self.new.start self.new.held }
+        ensures scripts { self.new.scripts ≡ self.old.scripts }
+        ensures program { program_of self.new.evaluator.names self.new.evaluator.table
+            ≡ take self.old.scripts (program_of self.old.evaluator.names self.old.evaluator.table) }
+        ensures names { marked_names self.new.evaluator self.new.start
+            ≡ marked_names self.old.evaluator self.old.start }
+        ensures held { (sources_held self.new.evaluator.names self.new.evaluator.table self.new.held
+            ≡ sources_held self.old.evaluator.names self.old.evaluator.table self.old.held)
+            ⊎ (sources_held self.new.evaluator.names self.new.evaluator.table self.new.held ≡ []) }
+    {
+        if self.evaluator.table.sources.len() == self.scripts {
+            return;
+        }
+        let start = self.start;
+        self.evaluator.cut(start);
+        self.held = None;
     }
 
     /// Gives up all sources, whatever is left of them. It takes no memory.

@@ -147,17 +147,16 @@ impl Workspace {
         Ok(Workspace { code, scratch })
     }
 
-    /// Gives up all that evaluations made and kept. It takes no memory.
+    /// Gives up all that evaluations made and kept. Code that is held stays where no source was kept, and is given up
+    /// otherwise. It takes no memory.
     pub fn empty(&mut self)
         ensures workspace { self.new.workspace ≡ emptied_workspace self.old.workspace }
         ensures names { self.new.names ≡ self.old.names }
-        ensures held { self.new.held ≡ [] }
+        ensures held { (self.new.held ≡ self.old.held) ⊎ (self.new.held ≡ []) }
     {
         let code = &mut *self.code;
-        let start = code.start;
         let scratch = Scratch::new(code.evaluator.table.sources.allocator());
-        code.evaluator.cut(start);
-        code.held = None;
+        code.forget_kept();
         self.scratch = scratch;
     }
 
