@@ -50,7 +50,7 @@ impl Making {
     fn empty(&mut self)
         ensures workspace { (scripts : _)
             → workspace_in scripts self.new ≡ emptied_workspace (workspace_in scripts self.old) }
-        ensures held { HoldsRead self.new }
+        ensures held { HoldsRead self.old → HoldsRead self.new }
     {
         match self {
             Making::NotMade => {}
