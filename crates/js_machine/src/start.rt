@@ -20,7 +20,7 @@ pub struct PreparedScripts {
     pub heap: BaseHeap,
 }
 
-/// Makes the code of scripts, which is shared, and the cells before the first step.
+/// Makes the code of scripts, which sessions may share, and the cells before the first step.
 ///
 /// # Errors
 ///

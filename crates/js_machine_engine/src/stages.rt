@@ -18,6 +18,7 @@ use js_machine_nodes::table::NodeTable;
 use std::alloc::AllocError;
 
 /// The part at a place before `end`, if there is one.
+#[inline(always)]
 fn kid_within(table: &NodeTable, place: usize, end: u32) -> Option<u32>
     ensures { result ≡ first_kid (kids_between table.now place end) }
 {
@@ -29,6 +30,7 @@ fn kid_within(table: &NodeTable, place: usize, end: u32) -> Option<u32>
 }
 
 /// The kept part at a place before `end`; undefined where there is none.
+#[inline(always)]
 fn kept_part(table: &NodeTable, place: usize, end: u32) -> KeptPart
     ensures { IsKept table.now place end result }
 {
@@ -83,6 +85,7 @@ pub fn at_test(table: &NodeTable, stack: &mut Stack, task: Task) -> Result<Next,
 }
 
 /// A loop goes on with its update. One that is a value or absent is finished.
+#[inline(always)]
 pub fn at_update(table: &NodeTable, stack: &mut Stack, task: Task) -> Result<Next, AllocError>
     requires task { IsInnermost task None stack.old }
     requires loops { is_loop task.op ≡ true }
@@ -111,6 +114,7 @@ pub fn behind_body(table: &NodeTable, stack: &mut Stack, task: Task) -> Result<N
 }
 
 /// A loop goes on with its body.
+#[inline(always)]
 pub fn at_body(table: &NodeTable, stack: &mut Stack, task: Task) -> Result<Next, AllocError>
     requires task { IsInnermost task None stack.old }
     requires loops { is_loop task.op ≡ true }

@@ -1,9 +1,6 @@
 -- Lists whose front may be shared with other lists.
-use Rattle.std.specs.Prelude.{List, ◌++◌, take, refl}
-use Rattle.std.specs.Arc.{arc_value}
+use Rattle.std.specs.Prelude.{ℕ, List, [], Option, Some, None, length, take, ◌≡◌, refl}
 use Rattle.std.specs.Coded.{Coded, code_by, coded_list}
-use Rattle.js_machine_nodes.specs.declared.shared_list.Parts.{Parts}
-use Rattle.js_machine_nodes.specs.declared.shared_list.Parts.TheVariants.{Own, Behind, Cut}
 
 -- what contracts see of such a list: what stands in it, in order
 pub record Items (T : Type 0) : Type 0 where
@@ -13,13 +10,12 @@ pub record Items (T : Type 0) : Type 0 where
 abbrev pub items_code : {T : Type 0} → Coded T → Coded (Items T)
 items_code {T} code = code_by (List T) (coded_list code) (λ v. v.items) (λ xs. record { items = xs }) (λ _. refl)
 
-module _ {T : Type 0} where
-  -- what stands in the parts of a list
-  abbrev pub items_of : Parts T → List T
-  items_of (Own own) = own.items
-  items_of (Behind front own) = (arc_value front).items ++ own.items
-  items_of (Cut front count) = take count (arc_value front).items
+module _ {T : Type 0} {A : Type 0} (items : A → List T) where
+  -- so many items of a front, where there is one
+  abbrev pub in_front : Option A → ℕ → List T
+  in_front None count = []
+  in_front (Some front) count = take count (items front)
 
-  -- and what contracts see of the list
-  abbrev pub list_of : Parts T → Items T
-  list_of parts = record { items = items_of parts }
+  -- a front has as many items as are counted
+  abbrev pub IsCounted : Option A → ℕ → Type 0
+  IsCounted front count = length (in_front front count) ≡ count

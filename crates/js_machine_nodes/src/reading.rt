@@ -9,6 +9,7 @@ use js_heap::value::Value;
 
 impl NodeTable {
     /// The node of a number, if there is one.
+    #[inline(always)]
     pub fn node(&self, n: u32) -> Option<Node>
         ensures { result ≡ slice_get self.now.nodes.items n }
     {
@@ -16,6 +17,7 @@ impl NodeTable {
     }
 
     /// The part at a place of the list of parts, if there is one.
+    #[inline(always)]
     pub fn part(&self, at: u32) -> Option<u32>
         ensures { result ≡ slice_get self.now.kids.items at }
     {
@@ -23,6 +25,7 @@ impl NodeTable {
     }
 
     /// The part at a place of the list of parts; 0 where there is none.
+    #[inline(always)]
     #[tactic(auto, unfolding(crate::specs::Trees::kid_at))]
     pub fn kid(&self, at: u32) -> u32
         ensures { result ≡ kid_at self.now at }
@@ -41,6 +44,7 @@ impl NodeTable {
     }
 
     /// The constant of a number; undefined where there is none.
+    #[inline(always)]
     #[tactic(auto, unfolding(crate::specs::Trees::constant_at))]
     pub fn constant(&self, n: u32) -> Value
         ensures { result ≡ constant_at self.now n }

@@ -12,7 +12,8 @@ use js_heap_memory::stored::Slots;
 use std::alloc::{AllocError, Global};
 
 /// The nodes of all sources of a program, with the parts that they have and the entries that they name by number. What
-/// stands in front in each list may be shared with other tables.
+/// stands in front in each list may be shared with other tables. The lists that a machine reads in every step stay its
+/// own: other tables share one copy of them.
 #[derive(Drop)]
 pub struct NodeTable {
     pub nodes: SharedList<Node>,
@@ -56,16 +57,11 @@ impl NodeTable {
     pub fn share(&mut self)
         ensures { self.new ≡ self.old }
     {
-        self.nodes.share();
-        self.kids.share();
-        self.constants.share();
         self.blocks.share();
         self.scripts.share();
         self.fors.share();
-        self.for_ofs.share();
         self.functions.share();
         self.objects.share();
-        self.calls.share();
         self.sources.share();
     }
 
@@ -73,25 +69,27 @@ impl NodeTable {
     fn become_another(&mut self, table: &NodeTable) -> Result<(), AllocError>
         ensures { OnOk result (self.new ≡ table.now) }
     {
-        self.nodes = table.nodes.another()?;
-        self.kids = table.kids.another()?;
-        self.constants = table.constants.another()?;
+        self.nodes = table.nodes.another_or_copied()?;
+        self.kids = table.kids.another_or_copied()?;
+        self.constants = table.constants.another_or_copied()?;
         self.blocks = table.blocks.another()?;
         self.scripts = table.scripts.another()?;
         self.fors = table.fors.another()?;
-        self.for_ofs = table.for_ofs.another()?;
+        self.for_ofs = table.for_ofs.another_or_copied()?;
         self.functions = table.functions.another()?;
         self.objects = table.objects.another()?;
-        self.calls = table.calls.another()?;
+        self.calls = table.calls.another_or_copied()?;
         self.sources = table.sources.another()?;
         Ok(())
     }
 
-    /// Another table with the same entries in front, and none of its own yet. No entry is copied.
+    /// Another table with the same entries in front, and none of its own yet. Only the lists that stayed its own are
+    /// copied, once: tables made of the other one share them.
     ///
     /// # Errors
     ///
-    /// The table wasn't shared, or has entries of its own, or too many tables have its front.
+    /// There is no memory for the copies, or the table wasn't shared, or has entries of its own, or too many tables have
+    /// its front.
     pub fn another(&self, alloc: Global) -> Result<NodeTable, AllocError>
         ensures { IfOk result (λ t. t ≡ self.now) }
     {

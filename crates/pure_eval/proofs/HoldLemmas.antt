@@ -22,10 +22,10 @@ use Rattle.pure_eval.specs.declared.holding.CodeChoice.TheVariants as choices
 use Rattle.pure_eval.specs.declared.holding.HeldCode.{HeldCode}
 use Rattle.pure_eval.specs.declared.holding.HeldCodes.{HeldCodes}
 use Rattle.pure_eval.specs.declared.prepared.PreparedSource.{PreparedSource}
-use Rattle.pure_eval.specs.Holding.{HasCode, IsCodeAdded, code_term, IsHeldAt, HeldSource, source_for, held_sources, sources_held, AreCodes, AreOf, IsCopy, StandsAt, IsFound, IsEntryOf, IsChosen, AreOfChoice, HoldsToo}
+use Rattle.pure_eval.specs.Holding.{HasCode, code_term, IsHeldAt, HeldSource, source_for, held_sources, sources_held, AreCodes, AreOf, IsCopy, StandsAt, IsFound, IsEntryOf, IsChosen, AreOfChoice, HoldsToo}
 use Rattle.pure_eval.specs.Whole.{IsWhole}
 use Rattle.pure_eval.specs.Returning.{WentOn, IsMarked, IsAgain}
-use Rattle.pure_eval.specs.Working.{IsWorking, Holds, IsHolding, IsHeld}
+use Rattle.pure_eval.specs.Working.{IsWorking, Holds, IsHolding}
 use Rattle.pure_eval.proofs.ReturnLemmas.{again-same, again-through}
 use Rattle.pure_eval.proofs.StayLemmas.{finds-stay}
 use Rattle.pure_eval.proofs.WholeLemmas.{within-more}

@@ -14,7 +14,7 @@ use Rattle.js_machine_nodes.specs.declared.table.NodeTable.{NodeTable}
 use Rattle.js_machine_nodes.specs.Ops.{is_literal, is_task_only}
 use Rattle.js_machine_nodes.specs.Forms.{form_of, function_of, script_form, for_form, for_of_form, block_form, function_form, method_form, object_form, call_form, name_call_form, member_call_form, index_call_form}
 use Rattle.js_machine_nodes.specs.Trees.{constant_at, kids_between, terms, node_term, tree_within, tree, IsNodeAt, IsTable, source_tree, source_trees}
-use Rattle.js_machine_nodes.specs.Codes.{code_of_parts, code_of_node, code_of_entry, code_of_number, indexed_code}
+use Rattle.js_machine_nodes.specs.Codes.{code_of_parts, code_of_node, code_of_entry, code_of_number}
 use Rattle.js_machine_compiler.specs.Grown.{Begins, Extends}
 use Rattle.js_machine_nodes.proofs.TreeLemmas.{now-below, later-below, terms_same}
 use Rattle.pure_eval.specs.Whole.{names_entry, AreClosed, ArePlaced, IsWithin, Finds}

@@ -23,7 +23,7 @@ use Rattle.pure_eval.specs.declared.holding.HeldCodes.{HeldCodes}
 use Rattle.pure_eval.specs.declared.holding.HeldCode.{HeldCode}
 use Rattle.pure_eval.specs.declared.prepared.PreparedSource.{PreparedSource}
 use Rattle.pure_eval.specs.Holding.{HeldSource, IsCodeAdded, held_sources, source_for, sources_held}
-use Rattle.pure_eval.specs.Working.{IsWorking, Holds, IsHolding, IsHeld, HoldsMore, IsOpen, IsKnown}
+use Rattle.pure_eval.specs.Working.{IsWorking, IsHolding, IsHeld, HoldsMore, IsOpen, IsKnown}
 use Rattle.pure_eval.specs.Workspaces.{Workspace, workspace_of, begun, emptied_workspace, OpenWorkspace, opened_of, opened}
 use Rattle.pure_eval.specs.Held.{marked_names}
 use Rattle.pure_eval.proofs.EvaluatorLemmas.{next-same, world-further, space-further}

@@ -41,7 +41,8 @@ impl Model for ScriptsCode {
 impl ScriptsCode {
     ghost use Rattle.pure_eval.specs.ScriptsCodes.{scripts_code};
 
-    /// That of a table which was shared, with its names. No code is copied.
+    /// That of a table which was shared, with its names. The lists that a machine keeps as its own are copied here, once
+    /// for all sessions.
     ///
     /// # Errors
     ///

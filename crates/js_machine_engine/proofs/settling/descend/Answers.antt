@@ -1,4 +1,3 @@
-use Rattle.std.proofs.Common.{sym, ◌∙◌}
 use Rattle.js_machine_engine.proofs.DescentLemmas.{leaf-term}
 use Rattle.js_machine_engine.proofs.settling.descend.Goals as goal
 

@@ -1,4 +1,4 @@
-use Rattle.std.proofs.Common.{List, sym, ap, subst, ◌∙◌, arith}
+use Rattle.std.proofs.Common.{sym, ap, subst, ◌∙◌, arith}
 use Rattle.js_machine_terms.specs.Views.{term_view}
 use Rattle.js_machine_nodes.specs.Trees.{program_of}
 use Rattle.js_heap_memory.specs.Overlays.{next_of, over_world, space_after}

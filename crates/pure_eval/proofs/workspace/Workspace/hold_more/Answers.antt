@@ -2,7 +2,7 @@ use Rattle.std.proofs.Common.{[], ◌∷◌, ◌++◌, Option, sym, ap, subst, �
 use Rattle.js_semantics.specs.Evaluation.{next_kept}
 use Rattle.pure_eval.specs.declared.holding.HeldCodes.{HeldCodes}
 use Rattle.pure_eval.specs.declared.session_code.SessionCode.{SessionCode}
-use Rattle.pure_eval.specs.Held.{HeldWorkspace, held_of, marked_names}
+use Rattle.pure_eval.specs.Held.{HeldWorkspace, marked_names}
 use Rattle.pure_eval.specs.Holding.{source_for, sources_held}
 use Rattle.pure_eval.specs.Working.{IsHeld}
 use Rattle.pure_eval.specs.Workspaces.{workspace_of}
