@@ -14,7 +14,7 @@ use std::marker::Model;
 pub(crate) struct JoinedTexts {
     units: Vec<u16>,
     // the place behind the last unit of each text
-    ends: Vec<usize>,
+    ends: Vec<u32>,
 }
 
 impl Model for JoinedTexts {
@@ -29,11 +29,11 @@ impl Model for JoinedTexts {
 }
 
 /// How many units stand before the text at a place.
-fn start(ends: &[usize], at: usize) -> usize
+fn start(ends: &[u32], at: usize) -> usize
     requires { at ≤ length ends.now }
     ensures { (ts : List (List ℕ)) → ends.now ≡ ends_from 0 ts → result ≡ length (concat (take at ts)) }
 {
-    if at == 0 { 0 } else { ends[at - 1] }
+    if at == 0 { 0 } else { ends[at - 1] as usize }
 }
 
 impl JoinedTexts {
@@ -72,14 +72,17 @@ impl JoinedTexts {
     ///
     /// # Errors
     ///
-    /// There is no memory for it.
+    /// There is no memory for it, or the texts would have more units than there are numbers of 32 bits.
     pub fn push(&mut self, text: &[u16]) -> Result<(), AllocError>
         ensures more { OnOk result (self.new ≡ self.old ++ text.now ∷ []) }
         ensures kept { OnErr result (self.new ≡ self.old) }
     {
+        let Ok(end) = u32::try_from(self.units.len() + text.len()) else {
+            return Err(AllocError);
+        };
         self.ends.reserve(1)?;
         self.units.extend_from_slice(text)?;
-        self.ends.push(self.units.len()).unwrap();
+        self.ends.push(end).unwrap();
         Ok(())
     }
 

@@ -8,7 +8,7 @@ invariant_of-self-2 c =
     let ends = c.self.inside.ends.items in
     let e = rw (c.unwrap.ensures, c.reserve.ensures.items) at c.push.ensures.items in
     (put-behind units ends c.extend_from_slice.new.self.items c.push.new.self.items c.args.text.now c.args.self.now
-    c.len.result
+    c.in-Ok.end
     (stands units ends c.args.self.now c.self.view_is c.self.invariant)
     c.in_ok-extend_from_slice.ensures.items e (grind arith)).0
 
@@ -18,6 +18,6 @@ returns-clause-more c =
     let ends = c.self.inside.ends.items in
     let e = rw (c.unwrap.ensures, c.reserve.ensures.items) at c.push.ensures.items in
     (put-behind units ends c.extend_from_slice.new.self.items c.push.new.self.items c.args.text.now c.args.self.now
-    c.len.result
+    c.in-Ok.end
     (stands units ends c.args.self.now c.self.view_is c.self.invariant)
     c.in_ok-extend_from_slice.ensures.items e (grind arith)).1
