@@ -81,6 +81,7 @@ impl<T> SharedList<T> {
     }
 
     /// The item of a number, if there is one, in front or behind.
+    #[cold]
     #[inline(never)]
     fn get_anywhere(&self, n: usize) -> Option<&T>
         ensures { option_copied result ≡ slice_get self.now.items n }
