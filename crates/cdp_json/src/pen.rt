@@ -1,6 +1,6 @@
 //! Texts of JSON (RFC 8259) that are written piece by piece.
 
-ghost use Rattle.std.specs.Prelude.{◌≡◌, [], decimal, OnErr, OnOk, string_bytes};
+ghost use Rattle.std.specs.Prelude.{◌≡◌, [], decimal, OnErr, OnOk, string_bytes, IfOk};
 ghost use Rattle.std.specs.Fmt.{signed_decimal};
 ghost use Rattle.json.specs.Print as print;
 ghost use Rattle.cdp_json.specs.Compact as spec;
@@ -40,6 +40,19 @@ impl Pen {
         Pen {
             text: String::new(alloc),
         }
+    }
+
+    /// A pen that has written nothing, with room for so many bytes.
+    ///
+    /// # Errors
+    ///
+    /// There is no memory for them.
+    pub fn with_room(alloc: Global, bytes: usize) -> Result<Pen, AllocError>
+        ensures { IfOk result (λ pen. pen ≡ []) }
+    {
+        Ok(Pen {
+            text: String::with_capacity(alloc, bytes)?,
+        })
     }
 
     /// Writes a text as it is.

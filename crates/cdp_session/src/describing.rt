@@ -24,6 +24,9 @@ use pure_eval::OpenWorkspace;
 use remote_objects::{ByValueFault, Describer, Detail};
 use std::alloc::{AllocError, Global};
 
+/// Room for the text of a value, in bytes.
+const TEXT_ROOM: usize = 256;
+
 /// What values are described to the session of this number by: the program's cells, and those of its evaluations.
 fn describer_of<'o, 'b>(
     alloc: Global,
@@ -62,7 +65,7 @@ pub(crate) fn properties_text(
 {
     let sources = EvaluatedTexts;
     let describer = describer_of(alloc, opened, scripts, session, &sources);
-    let mut pen = Pen::new(alloc);
+    let mut pen = Pen::with_room(alloc, TEXT_ROOM)?;
     pen.put("{\"result\":")?;
     describer.write_descriptors(object.target, detail, group_of(object), handles, &mut pen)?;
     pen.put("}")?;
@@ -90,7 +93,7 @@ pub(crate) fn described_text(
 {
     let sources = EvaluatedTexts;
     let describer = describer_of(alloc, opened, scripts, session, &sources);
-    let mut pen = Pen::new(alloc);
+    let mut pen = Pen::with_room(alloc, TEXT_ROOM)?;
     describer.write_remote(value, detail, handles, group, &mut pen)?;
     Ok(pen.finish())
 }
@@ -115,7 +118,7 @@ pub(crate) fn given_of(
 pub(crate) fn given_text(alloc: Global, given: &Json) -> Result<String, AllocError>
     ensures { IfOk result (λ text. string_bytes text ≡ spelt (json_view given.now)) }
 {
-    let mut pen = Pen::new(alloc);
+    let mut pen = Pen::with_room(alloc, TEXT_ROOM)?;
     pen.json(given)?;
     Ok(pen.finish())
 }

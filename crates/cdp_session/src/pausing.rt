@@ -25,6 +25,9 @@ use remote_objects::{Describer, Detail, backtrace};
 use std::alloc::{AllocError, Global};
 use stepping::Cause;
 
+/// Room for the event of a pause in a few frames, in bytes.
+const PAUSE_ROOM: usize = 2_048;
+
 /// The end of the event of a pause, behind the breakpoints: why the program stopped.
 fn reason_back(cause: Option<Cause>) -> &'static str
     ensures { result.now ≡ reason_back cause }
@@ -149,7 +152,7 @@ fn pause_text<P: Program>(
     let sources = EvaluatedTexts;
     let describer = describer(alloc, situation, session, &sources);
     let value = value_told(cause, situation.program.thrown());
-    let mut pen = Pen::new(alloc);
+    let mut pen = Pen::with_room(alloc, PAUSE_ROOM)?;
     begin_event("Debugger.paused", &mut pen)?;
     write_pause(
         &describer,

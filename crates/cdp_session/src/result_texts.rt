@@ -7,11 +7,17 @@ ghost use Rattle.cdp_session.specs.ResultTexts as results;
 use cdp_json::pen::Pen;
 use std::alloc::{AllocError, Global};
 
+/// Room for what stands around the text of a value, in bytes.
+const RESULT_ROOM: usize = 16;
+
+/// Room for what is said of a throw beside the text of its value, in bytes.
+const THROWN_ROOM: usize = 256;
+
 /// The result that has a value, which was described by this text.
 pub(crate) fn value_text(alloc: Global, described: &str) -> Result<String, AllocError>
     ensures { IfOk result (λ text. string_bytes text ≡ results.value_text described.now) }
 {
-    let mut pen = Pen::new(alloc);
+    let mut pen = Pen::with_room(alloc, described.len() + RESULT_ROOM)?;
     pen.put("{\"result\":")?;
     pen.put(described)?;
     pen.put("}")?;
@@ -34,7 +40,7 @@ fn write_uncaught(id: u64, described: &str, pen: &mut Pen) -> Result<(), AllocEr
 pub(crate) fn thrown_text(alloc: Global, id: u64, described: &str) -> Result<String, AllocError>
     ensures { IfOk result (λ text. string_bytes text ≡ results.thrown_text id described.now) }
 {
-    let mut pen = Pen::new(alloc);
+    let mut pen = Pen::with_room(alloc, described.len() + THROWN_ROOM)?;
     pen.put("{\"exceptionDetails\":")?;
     write_uncaught(id, described, &mut pen)?;
     pen.put(",\"result\":")?;

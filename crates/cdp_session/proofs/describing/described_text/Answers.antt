@@ -14,7 +14,7 @@ returns c =
     let same = ap (λ s. remote_with s c.args.detail g c.args.value h) c.describer_of-describer.ensures in
     record {
       made =
-          spelt-told made.made c.new-pen.ensures c.in_ok-write_remote.ensures.text c.finish.ensures
+          spelt-told made.made c.in_ok-pen.ensures c.in_ok-write_remote.ensures.text c.finish.ensures
           ∙ ap (λ m. spelt m.made) same;
       handles = c.in_ok-write_remote.ensures.handles ∙ ap (λ m. m.handles) same;
     }

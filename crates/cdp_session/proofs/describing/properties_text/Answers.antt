@@ -16,7 +16,7 @@ returns c =
     record {
       made =
           properties-told s t c.args.detail g object.group object.target c.args.handles.now
-          c.describer_of-describer.ensures c.group_of.ensures c.new-pen.ensures c.in_ok-put.ensures.put
+          c.describer_of-describer.ensures c.group_of.ensures c.in_ok-pen.ensures c.in_ok-put.ensures.put
           c.in_ok-write_descriptors.ensures.text c.in_ok-put-2.ensures.put c.finish.ensures;
       handles =
           properties-held s t c.args.detail g object.group object.target c.args.handles.now _

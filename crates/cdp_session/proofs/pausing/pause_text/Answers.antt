@@ -22,7 +22,7 @@ returns g c =
     (c.value_told-value.ensures ∙ ap (value_told cause) c.thrown.ensures) refl in
     record {
       made =
-          event-told (pause_params sight c.args.number s.standing.frames value hits cause h).made c.new-pen.ensures
+          event-told (pause_params sight c.args.number s.standing.frames value hits cause h).made c.in_ok-pen.ensures
           c.in_ok-begin_event.ensures (written-as (ap (λ m. compact_text m.made) same) c.in_ok-write_pause.ensures.made)
           c.in_ok-end_message.ensures c.finish.ensures;
       held = c.in_ok-write_pause.ensures.held ∙ ap (λ m. m.handles) same;

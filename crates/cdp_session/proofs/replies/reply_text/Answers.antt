@@ -9,4 +9,4 @@ returns c =
     c.finish.ensures
     ∙ ((further c.in_ok-begin_result.ensures
     (further c.in_ok-write_answer.ensures c.in_ok-end_message.ensures)).is
-    ∙ ap (λ s. s ++ reply_text c.args.id (answer_text c.args.answer.now)) c.new-pen.ensures)
+    ∙ ap (λ s. s ++ reply_text c.args.id (answer_text c.args.answer.now)) c.in_ok-pen.ensures)

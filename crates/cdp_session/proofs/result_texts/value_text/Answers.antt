@@ -4,5 +4,5 @@ use Rattle.cdp_session.proofs.result_texts.value_text.Goals as goal
 
 pub returns : goal.returns
 returns c =
-    from-nothing c.new-pen.ensures
+    from-nothing c.in_ok-pen.ensures
     (further c.in_ok-put.ensures.put (further c.in_ok-put-2.ensures.put c.in_ok-put-3.ensures.put)) c.finish.ensures
